@@ -1,8 +1,8 @@
 #!/usr/bin/env python3
 """answers.py TREE LIBS CRATE GOALS [--log DIR] [--batch N]: writes short answers for goals, so that a wrong body fails at once.
 
-GOALS has lines `module::function goal`. A goal gets `search rules fits 100`, else `search rules`, else `grind (arith, common_steps)`; it keeps none
-where no form proves it over holes. A goal that has an answer already, or isn't there, is left out. Run it behind a lane: one check at a time.
+GOALS has lines `module::function goal`. A goal gets `search rules fits 100`, else `grind (arith, common_steps)`; it keeps none where neither proves it
+over holes. An answer takes `g c` where the function or its impl is generic, else `c`. A goal that has an answer already, or isn't there, is left out.
 """
 import os, re, sys, tempfile
 sys.dont_write_bytecode = True
@@ -16,7 +16,7 @@ from edits_of.checks import Checks
 rt = kit.load(tree)
 crate = kit.crates(rt, tree, libs)[name]
 checks = Checks(rt, crate, texts.Functions(crate.folder), log)
-FORMS = ["search rules fits 100", "search rules", "grind (arith, common_steps) steps 400000", "grind (arith, common_steps)"]
+FORMS = ["search rules fits 100", "grind (arith, common_steps)"]
 USES = {"search": "use Rattle.std.proofs.Common.{rules}", "grind": "use Rattle.std.proofs.lemmas.Grind.{common_steps}\nuse Rattle.std.proofs.Common.{arith}"}
 
 
@@ -74,12 +74,21 @@ for function, those in by.items():
         if before[function] and re.search(rf"^(?:pub )?{re.escape(goal)} :", before[function], re.M):
             del those[goal]
 by = {it: list(those.values()) for it, those in by.items() if those}
-for function, those in by.items():
-    if before[function] and re.search(r"^[\w-]+ g c? ?.*=", before[function], re.M):
-        for it in those: it.binders = "g c"
 checks.name_functions()
 named = {it.name: it for it in checks.functions.all if it.name}
 by = {it: those for it, those in by.items() if it in named}
+
+
+def is_generic(function):
+    rows = checks.functions.rows[function.path]
+    head = " ".join(rows[function.first - 1 : function.body])
+    above = next((it for it in reversed(rows[: function.first - 1]) if it and it[0] not in " })#/"), "") if rows[function.body - 1].startswith("    ") else ""
+    return bool(re.search(r"fn \w+<[^(]*\b[A-Z]|HostRuntime|\bimpl [A-Z]", head) or re.match(r"(?:unsafe )?impl<[^>]*\b[A-Z]", above))
+
+
+for function, those in by.items():
+    for it in those:
+        it.binders = "g c" if is_generic(named[function]) else "c"
 left, done, dropped = dict(by), [], []
 while left:
     part = dict(list(left.items())[:most])

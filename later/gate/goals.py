@@ -1,15 +1,19 @@
 #!/usr/bin/env python3
-"""goals.py EDITS_LOG DIR: writes DIR/CRATE with a line `function goal` for each refusal of the log that names an open goal."""
+"""goals.py DIR FILE..: writes DIR/CRATE with a line `function goal` for each goal that `search` didn't prove.
+
+A FILE is what a check of mutants printed (scripts/edits --log), or a log of scripts/edits (it names each refusal's first goal alone).
+"""
 import os, re, sys
-log, to = sys.argv[1:3]
+to, *files = sys.argv[1:]
 found = {}
-LINE = re.compile(r"^(\w+)/\S+\.edit: refused(?: \(kept\))?: src/\S+ (\S+): (.*)$")
-GOAL = re.compile(r"\(`([\w-]+)`\)|^`search` did not prove `([^`]+)`")
-for line in open(log, encoding="utf-8", errors="replace"):
-    it = LINE.match(line)
-    goal = it and GOAL.search(it[3])
-    if goal and not it[3].startswith("its answer"):
-        found.setdefault(it[1], set()).add((it[2], goal[1] or goal[2]))
+REFUSAL = re.compile(r"^(\w+)/\S+\.edit: refused(?: \(kept\))?: src/\S+ (\S+): (?!its answer)(?:.*\(`([\w-]+)`\)|`search` did not prove `([^`]+)`)")
+CHECKED = re.compile(r"^fn (\w+?)::(\S+): .*?`search` did not prove ((?:`[^`]+`(?:, | and )?)+)")
+for name in files:
+    for line in open(name, encoding="utf-8", errors="replace"):
+        if it := REFUSAL.match(line):
+            found.setdefault(it[1], set()).add((it[2], it[3] or it[4]))
+        if it := CHECKED.match(line):
+            found.setdefault(it[1], set()).update((it[2], goal) for goal in re.findall(r"`([^`]+)`", it[3]))
 os.makedirs(to, exist_ok=True)
 for crate, those in sorted(found.items()):
     with open(f"{to}/{crate}", "w", encoding="utf-8") as file:

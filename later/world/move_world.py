@@ -10,13 +10,13 @@ from pathlib import Path
 
 # The modules that move, with what covworld's root hands on of each.
 HANDED_ON = {
-    "block": (), "block_printer": (), "files": ("FileFault", "file_text"), "folder": ("Folder", "FromFiles", "Opened"),
-    "output_folder": ("IntoFiles", "OutputFault", "OutputFolder"), "ready_text": ("ReadyText",), "sinks": ("Sinks",),
+    "begun": (), "block": (), "block_printer": (), "files": ("file_text",), "folder": ("Folder", "FromFiles", "Opened"), "named_file": (),
+    "output_folder": ("IntoFiles", "OutputFault", "OutputFolder"), "placed_names": (), "ready_text": ("ReadyText",), "sinks": ("Sinks",),
     "unfinished_file": ("UnfinishedFile",), "world": ("World",), "written_file": ("write_file",),
 }
 # What was pub(crate), and is called from covrun.
-PUBLIC = {"files": "enum FileFault|fn file_text", "ready_text": "struct ReadyText|fn of", "sinks": "fn serve|fn put_out|fn print|fn say", "written_file": "fn write_file"}
-SPECS = ("Streams", "Printed", "Folder", "OutputFiles", "World")
+PUBLIC = {"files": "fn file_text", "ready_text": "struct ReadyText|fn of", "sinks": "fn serve|fn put_out|fn print|fn say", "written_file": "fn write_file"}
+SPECS = ("Streams", "Printed", "Folder", "OutputFiles", "Begun", "World")
 # The definitions of specs/Files.antt that move; the others stay.
 OF_FILES = ("HasRead", "IsUnread")
 LEMMAS = ("Folders", "PrintedSteps")
@@ -27,7 +27,7 @@ ANY, ANY_SPEC, ANY_LEMMA = "|".join(HANDED_ON), "|".join(SPECS), "|".join(LEMMAS
 PATHS = (
     (rf"Rattle\.covrun\.specs\.({ANY_SPEC})\b", r"Rattle.covworld.specs.\1"),
     (rf"Rattle\.covrun\.specs\.Files\.(\{{(?:{'|'.join(OF_FILES)}|, )+\}})", r"Rattle.covworld.specs.Files.\1"),
-    (rf"Rattle\.covrun\.specs\.declared\.({ANY})\.", r"Rattle.covworld.specs.declared.\1."),
+    (rf"Rattle\.covrun\.specs\.(declared|contracts)\.({ANY})\.", r"Rattle.covworld.specs.\1.\2."),
     (rf"Rattle\.covrun\.proofs\.({ANY}|{ANY_LEMMA})\.", r"Rattle.covworld.proofs.\1."),
 )
 
@@ -77,7 +77,7 @@ def use(crate, names):
 
 def take_from_covworld(path, pattern, stay=()):
     """Takes what these imports name from covworld, but for what stays."""
-    text, exported = path.read_text(), {it for names in HANDED_ON.values() for it in names}
+    text, exported = path.read_text(), {"Noted"} | {it for names in HANDED_ON.values() for it in names}
     names = {it for part in re.findall(pattern, text, re.M) for it in re.findall(r"\w+", part)} & exported - set(stay)
     if names:
         text = re.sub(pattern, lambda it: use("covrun", set(re.findall(r"\w+", it[1])) - names), text, flags=re.M)
@@ -87,11 +87,11 @@ def take_from_covworld(path, pattern, stay=()):
 
 def write_roots():
     root = ["//! What a run of the program reads and changes: its files and its standard streams.\n#![tactic(auto)]\n\n", *(f"mod {it};\n" for it in HANDED_ON), "\n"]
-    root += [f"pub {use(module, names)}" for module, names in HANDED_ON.items() if names]
+    root += ["pub use covreport::Noted;\n", *(f"pub {use(module, names)}" for module, names in HANDED_ON.items() if names)]
     new = {"src/lib.rt": root, "specs/Lib.antt": [f"pub mod {it}\n" for it in (*SPECS, "Files")], "proofs/Lib.antt": [f"pub mod {it}\n" for it in LEMMAS]}
     for path in (it for it in new if not Path("covworld", it).exists()):
         Path("covworld", path).write_text("".join(new[path]))
-    change("covrun/src/lib.rt", (rf"^mod ({ANY});\n", ""), (r"^pub use folder::.*\n", f"pub {use('covworld', OF_COVRUN)}"), (rf"^pub use ({ANY})::.*\n", ""))
+    change("covrun/src/lib.rt", (rf"^mod ({ANY});\n", ""), (r"^pub use folder::.*\n", f"pub {use('covworld', OF_COVRUN)}"), (rf"^pub use (covreport::Noted;|({ANY})::.*)\n", ""))
     change("covrun/specs/Lib.antt", (rf"^pub mod ({ANY_SPEC})\n", ""), (r"\A(?!pub use Rattle\.covworld)", "".join(f"pub use Rattle.covworld.specs.{it}\n" for it in CITED)))
     change("covrun/proofs/Lib.antt", (rf"^pub mod ({ANY_LEMMA})\n", ""))
 
@@ -109,7 +109,7 @@ def main(tree):
     for module, heads in PUBLIC.items():
         change(f"covworld/src/{module}.rt", (rf"pub\(crate\) ({heads})\b", r"pub \1"))
     write_roots()
-    change("../crates.txt", (r"^(covnamed .*\n)(?!covworld)", r"\1covworld: covnamed covsession covstream covread covreport covdata hex\n"),
+    change("../crates.txt", (r"^(covnamed .*\n)(?!covworld)", r"\1covworld: covsession covstream covread covreport covdata hex\n"),
         (r"^(covrun .*?:) (?!covworld)", r"\1 covworld "), (r"^(covrun .*) hex\b", r"\1"), (r"^((?:covcollect|covrun_tests) .*?: covrun) (?!covworld)", r"\1 covworld "))
     change("../scripts/definitions", (r'"covnamed", (?!"covworld")', '"covnamed", "covworld", '), (r"covrun\.(Folder|World)\.", r"covworld.\1."), (rf"covrun::({ANY})::", r"covworld::\1::"))
 
