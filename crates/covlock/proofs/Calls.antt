@@ -53,8 +53,7 @@ logged_after seat latest news amount after told has is few later prefix adds =
     let logged = has.1 in
     let own : IsNewsOf log.job told.op told news = subst (λ (job : ℕ). IsNewsOf job told.op told news) (sym logged.job) is in
     let places : places_of (with_receipt log told) ≡ places_of log ++ told.place ∷ [] = places_after log told in
-    let more : weight (places_of (with_receipt log told)) ≡ weight (places_of log) + weight (told.place ∷ []) = ap (λ (ps : List ℕ). weight ps) places ∙ weight_append (places_of log) (told.place ∷ []) in
-    (
+    let more : weight (places_of (with_receipt log told)) ≡ weight (places_of log) + weight (told.place ∷ []) = ap (λ (ps : List ℕ). weight ps) places ∙ weight_append (places_of log) (told.place ∷ []) in (
       with_receipt log told,
       record {
         job = logged.job;

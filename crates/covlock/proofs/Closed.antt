@@ -84,16 +84,15 @@ one_logged history latest seat seats before own after has prefix have =
     let parts : length (places_in (log ∷ logs)) ≡ length (places_of log) + length (places_in logs) = length-append (places_of log) (places_in logs) in
     let here : length (places_of log) ≡ length log.receipts = length-map log.receipts (λ (r : ReceiptData). r.place) in
     let calls : calls_in (seat ∷ seats) ≡ seat.calls + calls_in seats = sum_by-cons (λ (s : SeatData). s.calls) seat seats in
-    let adds : weight (places_in (log ∷ logs)) ≡ weight (places_of log) + weight (places_in logs) = weight_append (places_of log) (places_in logs) in
-    (
+    let adds : weight (places_in (log ∷ logs)) ≡ weight (places_of log) + weight (places_in logs) = weight_append (places_of log) (places_in logs) in (
       log ∷ logs,
       record {
         jobs = ap (λ (job : ℕ). job ∷ jobs_of logs) logged.job ∙ ap (λ (js : List ℕ). seat.job ∷ js) are.jobs;
         kept = (log_after latest history log prefix logged.kept.log_of, are.kept);
         calls = omega (arith, parts, here, logged.kept.counted, calls, are.calls);
         last = (
-            λ place ends. left_contains (places_of log) (places_in logs) place (logged.last place ends),
-            all_weaker (LastIn (places_in logs)) (LastIn (places_in (log ∷ logs))) (λ (s : SeatData) (h : LastIn (places_in logs) s) (place : ℕ) (ends : place + 1 ≡ s.seen). right_contains (places_of log) (places_in logs) place (h place ends)) seats are.last,
+          λ place ends. left_contains (places_of log) (places_in logs) place (logged.last place ends),
+          all_weaker (LastIn (places_in logs)) (LastIn (places_in (log ∷ logs))) (λ (s : SeatData) (h : LastIn (places_in logs) s) (place : ℕ) (ends : place + 1 ≡ s.seen). right_contains (places_of log) (places_in logs) place (h place ends)) seats are.last,
         );
         few = all_joined (λ (p : ℕ). p < max_entries) (places_of log) (places_in logs) (places_few latest log max_entries logged.kept.log_of (omega (arith, logged.kept.upto, logged.few))) are.few;
         weighs = omega (arith, are.weighs, logged.weighs, adds);
