@@ -61,7 +61,7 @@ function put_held(   end) {
 # Version 1 doesn't have comments, source versions and conditions (MC/DC).
 function without_comments(text) {
     if (text ~ /\n[#VM]/)
-        gsub(/\n(#|VER:|MCDC:|MCF:|MCH:)[^\n]*/, "", text)
+        gsub(/\n(#|VER:|MCDC:|MCF:|MCH:|MRF:|MRH:)[^\n]*/, "", text)
     return text
 }
 

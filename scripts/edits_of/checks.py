@@ -1,4 +1,4 @@
-"""Checks of a copy of a crate, in which each function that isn't looked at has a proof of one hole."""
+"""Checks of a copy of a crate, in which each function that isn't looked at has a proof of one hole, and an empty body."""
 import contextlib
 import os
 import shutil
@@ -50,11 +50,32 @@ class Checks:
         for path, text in texts.items():
             write(f"{room}/{path}", text)
         for name in self.holes - kept:
-            folder = f"{room}/proofs/{name.replace('::', '/')}"
-            for file in FILES:
-                with contextlib.suppress(FileNotFoundError):
-                    os.remove(f"{folder}/{file}")
-            write(f"{folder}/Proof.antt", HOLE.format(crate=self.crate.name, path=name.replace("::", "."), name=name.rpartition("::")[2]))
+            self.write_hole(room, name)
+        if kept:
+            self.empty(room, texts, kept)
+
+    def write_hole(self, room, name):
+        """Gives a function a proof of one hole in place of its own."""
+        folder = f"{room}/proofs/{name.replace('::', '/')}"
+        for file in FILES:
+            with contextlib.suppress(FileNotFoundError):
+                os.remove(f"{folder}/{file}")
+        write(f"{folder}/Proof.antt", HOLE.format(crate=self.crate.name, path=name.replace("::", "."), name=name.rpartition("::")[2]))
+
+    def empty(self, room, texts, kept):
+        """Empties the bodies of functions with a hole. No proof opens them, but the prover would still follow their borrows and state their goals,
+        which takes up to a third of a check."""
+        names = [it.name for it in self.functions.all if it.name]
+        emptied = {it for it in names if it in self.holes - kept and names.count(it) == 1}
+        for path, rows in self.functions.rows.items():
+            write(f"{room}/{path}", self.functions.emptied(path, texts.get(path, "\n".join(rows)), emptied))
+        for name in emptied:
+            self.remove_closures(room, name.split("::"))
+
+    def remove_closures(self, room, words):
+        """Removes proofs of closures, which went with the body: they stand in a folder `fn` of the function's module."""
+        for at in range(len(words)):
+            shutil.rmtree("/".join([room, "proofs", *words[:at], "fn", *words[at:]]), ignore_errors=True)
 
     def check(self, texts, functions, begun):
         """Checks these functions. What the crate's checks have in common is kept in the folder `begun`, if one is given."""

@@ -97,6 +97,12 @@ class Function:
         """Whether others see its body, or share its proof: they would have to be judged with it."""
         return self.is_const or self.in_cycle
 
+    def empty(self, rows):
+        """Has the body loop for ever, if it isn't on one line. A loop has any type, and no borrows."""
+        inside = range(self.body, self.last - 1)
+        if inside:
+            rows[inside.start : inside.stop] = ["loop {}", *[""] * (len(inside) - 1)]
+
     def clause_of(self, goal):
         """The clause of the contract that an open goal is of, where the goal's name or the contract tells."""
         found = re.search(r"`(returns[\w-]*)`", goal)
@@ -165,6 +171,14 @@ class Functions:
             modules = [*modules, here] if here not in modules else modules
             owners = [one + other for one in shapes_of(subject, parameters) for other in shapes_of(trait, parameters)]
         return list(dict.fromkeys("::".join([*module, owner, name]) for module in modules for owner in owners))
+
+    def emptied(self, path, text, names):
+        """The text of a file, in which these functions have an empty loop for a body. Lines keep their numbers."""
+        rows = text.split("\n")
+        for it in self.all:
+            if it.path == path and it.name in names and not it.is_judged_alone():
+                it.empty(rows)
+        return "\n".join(rows)
 
     def line_of(self, path, text):
         """The line at which this text begins, or 0 where the file doesn't have it just once."""

@@ -1,16 +1,20 @@
 //! Checks that a single thread gets the same answers as the jobs.
 
-use covbook::{Answer, Entry, JobLog, Op, SubRef};
-use covnamed::Book;
+use covbook::{Answer, Book, Entry, JobLog, Op, SubRef};
 use covread::read_trace;
+use covreport::Table;
 use covtable::Totals;
 use std::alloc::Global;
 
 /// Checks that a single thread with its own book gets the same answers and totals for the history's operations in order. The
 /// thread's book must also print the report that job 0 got last. An empty book that gets this report as a submission must then have
 /// the same totals and print the same report.
-pub(crate) fn check_alone(alloc: Global, entries: &[Entry], logs: &[JobLog]) -> anyhow::Result<()> {
-    let mut book = Book::new(alloc);
+pub(crate) fn check_alone<T: Table<Global>>(
+    alloc: Global,
+    entries: &[Entry],
+    logs: &[JobLog],
+) -> anyhow::Result<()> {
+    let mut book: Book<Global, T> = Book::new(alloc);
     for entry in entries {
         check_step(alloc, &mut book, entry)?;
     }
@@ -21,7 +25,11 @@ pub(crate) fn check_alone(alloc: Global, entries: &[Entry], logs: &[JobLog]) -> 
 }
 
 /// Performs the entry's operation on `book`, and checks the book's answer and totals against the entry.
-fn check_step(alloc: Global, book: &mut Book, entry: &Entry) -> anyhow::Result<()> {
+fn check_step<T: Table<Global>>(
+    alloc: Global,
+    book: &mut Book<Global, T>,
+    entry: &Entry,
+) -> anyhow::Result<()> {
     let receipt = book.step(alloc, entry.job, &entry.op)?;
     let place = receipt.place;
     if !receipt.answer.is_same(&entry.answer) {
@@ -48,19 +56,23 @@ fn text_of(answer: &Answer) -> Option<&[u8]> {
 }
 
 /// Checks that the book prints `report`, and that an empty book does so too, with the same totals, after `report` is submitted.
-fn check_report(alloc: Global, book: &mut Book, report: &[u8]) -> anyhow::Result<()> {
+fn check_report<T: Table<Global>>(
+    alloc: Global,
+    book: &mut Book<Global, T>,
+    report: &[u8],
+) -> anyhow::Result<()> {
     let totals = book.totals();
     check_printed(alloc, book, report, totals)?;
-    let mut back = Book::new(alloc);
+    let mut back: Book<Global, T> = Book::new(alloc);
     let submission = SubRef::of(alloc, read_trace(alloc, report)?)?;
     back.step(alloc, 0, &Op::Submit(submission))?;
     check_printed(alloc, &mut back, report, totals)
 }
 
 /// Checks that the book prints this report and has these totals.
-fn check_printed(
+fn check_printed<T: Table<Global>>(
     alloc: Global,
-    book: &mut Book,
+    book: &mut Book<Global, T>,
     report: &[u8],
     totals: Totals,
 ) -> anyhow::Result<()> {

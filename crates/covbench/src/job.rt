@@ -3,8 +3,8 @@
 use crate::random::Random;
 use crate::random_op::random_op;
 use covbook::{JobLog, Op, Readings, Receipts};
-use covjobs::{Live, Name, News, Seat};
-use covnamed::Shared;
+use covjobs::{Live, Name, News, Seat, Shared};
+use covreport::Table;
 use std::alloc::Global;
 use std::sync::Wait;
 
@@ -40,17 +40,23 @@ impl<L: Name> Job<L> {
     }
 
     /// Makes `calls` random calls, or stops at the first error. Stores the outcome in `ended`.
-    pub(crate) fn work<R: Wait>(&mut self, rt: &R, alloc: Global, book: &Shared<L>, calls: u64) {
+    pub(crate) fn work<R: Wait, T: Table<Global>>(
+        &mut self,
+        rt: &R,
+        alloc: Global,
+        book: &Shared<L, Global, T>,
+        calls: u64,
+    ) {
         self.ended = self.call_often(rt, alloc, book, calls);
     }
 
     /// Makes `calls` random calls, and stores the receipts. Learns the news of about two thirds of the calls. Reads the totals
     /// after about two thirds of the calls.
-    fn call_often<R: Wait>(
+    fn call_often<R: Wait, T: Table<Global>>(
         &mut self,
         rt: &R,
         alloc: Global,
-        book: &Shared<L>,
+        book: &Shared<L, Global, T>,
         calls: u64,
     ) -> anyhow::Result<()> {
         for _call in 0..calls {
@@ -67,11 +73,11 @@ impl<L: Name> Job<L> {
     }
 
     /// Makes one call, stores its receipt, and returns its news.
-    pub(crate) fn ask<R: Wait>(
+    pub(crate) fn ask<R: Wait, T: Table<Global>>(
         &mut self,
         rt: &R,
         alloc: Global,
-        book: &Shared<L>,
+        book: &Shared<L, Global, T>,
         op: &Op,
     ) -> anyhow::Result<News<L>> {
         let done = book.perform(rt, alloc, &mut self.seat, op)?;

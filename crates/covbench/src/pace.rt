@@ -4,8 +4,9 @@ ghost use Rattle.std.specs.Prelude.{◌≡◌};
 
 use crate::wrappers::{open_book, perform, read, reader, shared};
 use covbook::Op;
-use covjobs::{Live, Name, Seat, Seats, Start};
-use covnamed::Shared;
+use covjobs::{Live, Name, Seat, Seats, Shared, Start};
+use covreport::Table;
+use covstore::Store;
 use std::alloc::{AllocError, Global};
 use std::marker::Brand;
 use std::sync::Wait;
@@ -70,21 +71,20 @@ pub(crate) fn started<R: Threads + Wait + Clock + Sync>(
     plan: PacePlan,
 ) -> anyhow::Result<String> {
     let start = Start::new(alloc, plan.submitters)?;
-    measured::<Brand, _>(rt, alloc, start, plan)
+    measured::<Brand, _, Store>(rt, alloc, start, plan)
 }
 
 /// Opens the book, measures it, and returns the line to print.
-fn measured<L: Name + Send + Sync, R: Threads + Wait + Clock + Sync>(
-    rt: &R,
-    alloc: Global,
-    start: Start,
-    plan: PacePlan,
-) -> anyhow::Result<String>
+fn measured<
+    L: Name + Send + Sync,
+    R: Threads + Wait + Clock + Sync,
+    T: Table<Global, Plan: Send, Renaming: Send> + Send,
+>(rt: &R, alloc: Global, start: Start, plan: PacePlan) -> anyhow::Result<String>
     requires name { start.name ≡ L.name }
     requires jobs { start.jobs ≡ L.parts }
     requires book { start.book ≡ L.book }
 {
-    let (book, seats) = open_book::<L, _>(alloc, start)?;
+    let (book, seats) = open_book::<L, _, T>(alloc, start)?;
     let mut submitters = submitters_of(alloc, seats)?;
     let mut watchers = watchers_of(rt, alloc, &book, plan.readers)?;
     let submitting = submitters.as_mut_slice();
@@ -102,10 +102,10 @@ fn submitters_of<L: Name>(alloc: Global, seats: Seats<L>) -> anyhow::Result<Vec<
 }
 
 /// Makes `readers` watchers, each with a reader of the book.
-fn watchers_of<L: Name, R: Wait>(
+fn watchers_of<L: Name, R: Wait, T: Table<Global>>(
     rt: &R,
     alloc: Global,
-    book: &Shared<L>,
+    book: &Shared<L, Global, T>,
     readers: u64,
 ) -> anyhow::Result<Vec<Watcher<L>>> {
     let mut watchers = Vec::new(alloc);
@@ -117,10 +117,14 @@ fn watchers_of<L: Name, R: Wait>(
 }
 
 /// Runs all threads, and returns how many nanoseconds that took.
-fn timed<L: Name + Send + Sync, R: Threads + Wait + Clock + Sync>(
+fn timed<
+    L: Name + Send + Sync,
+    R: Threads + Wait + Clock + Sync,
+    T: Table<Global, Plan: Send, Renaming: Send> + Send,
+>(
     rt: &R,
     alloc: Global,
-    book: &Shared<L>,
+    book: &Shared<L, Global, T>,
     plan: PacePlan,
     submitters: &mut [Submitter<L>],
     watchers: &mut [Watcher<L>],
@@ -179,10 +183,14 @@ fn a_second(times: u64, nanos: u128) -> u128 {
 }
 
 /// Runs all threads, and waits until they have ended. The watchers read the totals until the last submitter has ended.
-fn run<L: Name + Send + Sync, R: Threads + Wait + Clock + Sync>(
+fn run<
+    L: Name + Send + Sync,
+    R: Threads + Wait + Clock + Sync,
+    T: Table<Global, Plan: Send, Renaming: Send> + Send,
+>(
     rt: &R,
     alloc: Global,
-    book: &Shared<L>,
+    book: &Shared<L, Global, T>,
     op: &Op,
     submits: u64,
     submitters: &mut [Submitter<L>],
@@ -219,10 +227,10 @@ fn watch<L: Name>(watcher: &mut Watcher<L>, running: &AtomicU64) {
 
 /// Submits `submits` times, up to the first failure, and stores the duration of the slowest submit. The seat counts the successful
 /// submits.
-fn submit_often<L: Name, R: Wait + Clock>(
+fn submit_often<L: Name, R: Wait + Clock, T: Table<Global>>(
     rt: &R,
     alloc: Global,
-    book: &Shared<L>,
+    book: &Shared<L, Global, T>,
     op: &Op,
     submits: u64,
     submitter: &mut Submitter<L>,
@@ -236,10 +244,10 @@ fn submit_often<L: Name, R: Wait + Clock>(
 }
 
 /// Submits once, and returns the duration in nanoseconds. Returns `None` if the submit failed or the clock can't be read.
-fn submit_once<L: Name, R: Wait + Clock>(
+fn submit_once<L: Name, R: Wait + Clock, T: Table<Global>>(
     rt: &R,
     alloc: Global,
-    book: &Shared<L>,
+    book: &Shared<L, Global, T>,
     op: &Op,
     seat: &mut Seat<L>,
 ) -> Option<u64> {

@@ -5,8 +5,8 @@ ghost use Rattle.std.specs.Prelude.{◌≡◌};
 use crate::alone::check_alone;
 use crate::job::Job;
 use covbook::{Entries, JobLog, Logs, Op, gather};
-use covjobs::{Live, Name, News, Seat, Seats, Start};
-use covnamed::{Shared, open_book};
+use covjobs::{Live, Name, News, Seat, Seats, Shared, Start, open_book};
+use covreport::Table;
 use std::alloc::Global;
 use std::sync::Wait;
 use std::thread;
@@ -22,18 +22,16 @@ struct HandedIn<L: Name> {
 
 /// Runs the round with this seed. Each job makes `calls` random calls, and then the first job asks for the report. Checks the
 /// history against the jobs' logs, and against the answers of a single thread. Returns the number of calls.
-pub(crate) fn soaked<L: Name + Send + Sync, R: Threads + Wait + Sync>(
-    rt: &R,
-    alloc: Global,
-    start: Start,
-    calls: u64,
-    seed: u64,
-) -> anyhow::Result<u64>
+pub(crate) fn soaked<
+    L: Name + Send + Sync,
+    R: Threads + Wait + Sync,
+    T: Table<Global, Plan: Send, Renaming: Send> + Send,
+>(rt: &R, alloc: Global, start: Start, calls: u64, seed: u64) -> anyhow::Result<u64>
     requires name { start.name ≡ L.name }
     requires jobs { start.jobs ≡ L.parts }
     requires book { start.book ≡ L.book }
 {
-    let (book, seats) = open_book::<L, _>(alloc, start)?;
+    let (book, seats) = open_book::<L, _, T>(alloc, start)?;
     let handed = worked(rt, alloc, &book, seats, calls, seed)?;
     let wanted = (handed.logs.get().len() as u64)
         .saturating_mul(calls)
@@ -47,15 +45,19 @@ pub(crate) fn soaked<L: Name + Send + Sync, R: Threads + Wait + Sync>(
     if let Err(fault) = gather(entries.get(), handed.logs.get()) {
         return Err(anyhow::anyhow!("not gathered: {fault:?}"));
     }
-    check_alone(alloc, entries.get(), handed.logs.get())?;
+    check_alone::<T>(alloc, entries.get(), handed.logs.get())?;
     Ok(made)
 }
 
 /// Lets all jobs make their random calls at the same time. Then lets the first job ask for the report. Returns the jobs' results.
-fn worked<L: Name + Send + Sync, R: Threads + Wait + Sync>(
+fn worked<
+    L: Name + Send + Sync,
+    R: Threads + Wait + Sync,
+    T: Table<Global, Plan: Send, Renaming: Send> + Send,
+>(
     rt: &R,
     alloc: Global,
-    book: &Shared<L>,
+    book: &Shared<L, Global, T>,
     seats: Seats<L>,
     calls: u64,
     seed: u64,
@@ -73,13 +75,11 @@ fn worked<L: Name + Send + Sync, R: Threads + Wait + Sync>(
 }
 
 /// Lets each job make its random calls in a thread of its own, and waits until all have ended.
-fn work_at_once<L: Name + Send + Sync, R: Threads + Wait + Sync>(
-    rt: &R,
-    alloc: Global,
-    book: &Shared<L>,
-    jobs: &mut [Job<L>],
-    calls: u64,
-) {
+fn work_at_once<
+    L: Name + Send + Sync,
+    R: Threads + Wait + Sync,
+    T: Table<Global, Plan: Send, Renaming: Send> + Send,
+>(rt: &R, alloc: Global, book: &Shared<L, Global, T>, jobs: &mut [Job<L>], calls: u64) {
     thread::scope(thread::scope_env(), rt, |scope| {
         for job in jobs.iter_mut() {
             // If a thread can't be started, `ended` of the thread's job stays an error.
@@ -112,9 +112,9 @@ fn calls_of<L: Name>(seats: &[Seat<L>]) -> u64 {
 }
 
 /// Closes the book, and returns its history and news of this history.
-fn closed<L: Name, R: Wait>(
+fn closed<L: Name, R: Wait, T: Table<Global>>(
     rt: &R,
-    book: Shared<L>,
+    book: Shared<L, Global, T>,
     seats: Seats<L>,
 ) -> anyhow::Result<(Entries, News<L>)> {
     match book.close(rt, seats) {

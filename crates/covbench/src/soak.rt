@@ -2,6 +2,7 @@
 
 use crate::round::soaked;
 use covjobs::Start;
+use covstore::Store;
 use std::alloc::Global;
 use std::marker::Brand;
 use std::sync::Wait;
@@ -41,5 +42,5 @@ fn one_round<R: Threads + Wait + Sync>(
     seed: u64,
 ) -> anyhow::Result<u64> {
     let start = Start::new(alloc, plan.threads)?;
-    soaked::<Brand, _>(rt, alloc, start, plan.calls, seed)
+    soaked::<Brand, _, Store>(rt, alloc, start, plan.calls, seed)
 }

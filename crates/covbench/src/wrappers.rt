@@ -5,9 +5,9 @@ ghost use Rattle.std.specs.Prelude.{◌≡◌};
 
 use covbook::{BookFault, Op, SubRef};
 use covdata::{Memory, ReadFault, Submission};
-use covjobs::{Done, Live, Name, ReaderFault, Seat, Seats, Start};
-use covnamed::Shared;
+use covjobs::{Done, Live, Name, ReaderFault, Seat, Seats, Shared, Start};
 use covread::read_trace;
+use covreport::Table;
 use std::alloc::Allocator;
 use std::sync::Wait;
 
@@ -23,28 +23,28 @@ pub(crate) fn shared<A: Allocator + Copy>(
     SubRef::of(alloc, given)
 }
 
-pub(crate) fn open_book<L: Name, A: Allocator + Copy>(
+pub(crate) fn open_book<L: Name, A: Allocator + Copy, T: Table<A>>(
     alloc: A,
     start: Start<A>,
-) -> Result<(Shared<L, A>, Seats<L, A>), Memory>
+) -> Result<(Shared<L, A, T>, Seats<L, A>), Memory>
     requires name { start.name ≡ L.name }
     requires jobs { start.jobs ≡ L.parts }
     requires book { start.book ≡ L.book }
 {
-    covnamed::open_book::<L, A>(alloc, start)
+    covjobs::open_book::<L, A, T>(alloc, start)
 }
 
-pub(crate) fn reader<L: Name, A: Allocator + Copy, R: Wait>(
+pub(crate) fn reader<L: Name, A: Allocator + Copy, R: Wait, T: Table<A>>(
     rt: &R,
-    book: &Shared<L, A>,
+    book: &Shared<L, A, T>,
 ) -> Result<Live<L, A>, ReaderFault> {
     book.reader(rt)
 }
 
-pub(crate) fn perform<L: Name, A: Allocator + Copy, R: Wait>(
+pub(crate) fn perform<L: Name, A: Allocator + Copy, R: Wait, T: Table<A>>(
     rt: &R,
     alloc: A,
-    book: &Shared<L, A>,
+    book: &Shared<L, A, T>,
     seat: &mut Seat<L>,
     op: &Op<A>,
 ) -> Result<Done<L, A>, BookFault> {

@@ -1,12 +1,15 @@
 -- A run with one more operation, and a history with one more entry.
-use Rattle.std.proofs.Common.{◌≡◌, ℕ, ◌+◌, ◌<◌, ◌≤◌, List, [], ◌∷◌, ◌++◌, length, None, refl, sym, ap, ◌∙◌, subst, arith}
+use Rattle.std.proofs.Common.{◌≡◌, ℕ, ◌+◌, ◌<◌, ◌≤◌, not, List, [], ◌∷◌, ◌++◌, length, filter, None, bytes_eq, refl, sym, ap, ◌∙◌, subst, arith}
 use Rattle.std.proofs.lemmas.List.{map_push, length_push}
 use Rattle.covtable.specs.declared.totals.Totals.{Totals}
 use Rattle.covdata.specs.Row.{SubmissionData, items_in, rows_of}
+use Rattle.covtable.specs.Content.{SectionData, content_at}
 use Rattle.covtable.specs.Renamed.{renamed}
 use Rattle.covtable.specs.Shown.{ShownData, SameContent, StandsFor}
 use Rattle.covtable.specs.Table.{Table, clash_at}
+use Rattle.covtable.specs.Totals.{totals_of}
 use Rattle.covtable.specs.Without.{without_test}
+use Rattle.covtable.proofs.WithoutContent.{content_without}
 use Rattle.covbook.proofs.Members.{members_kept, members_stay}
 use Rattle.covbook.specs.Held.{BookData, IsBook}
 use Rattle.covbook.specs.Op.{OpData, AreLawfulOps, IsLawfulOp, SubmitOp, AnswerData, AcceptedAnswer, EntryData}
@@ -156,6 +159,21 @@ held_book {T} shows plans renames store committed accepted room entries book new
     subst (IsBook (shows committed) (accepted + 1)) (ap (λ (x : EntryData). entries ++ x ∷ []) (sym next_here) ∙ sym is) made
 
 -- ---- a test that is dropped
+
+-- the totals of the next entry are those without the test, of each table that the store represents
+pub drop_here : {T P R : Type 0} (shows : T → ShownData) (plans : T → SubmissionData → P → Type 0) (renames : T → List ℕ → List ℕ → R → Type 0) (store : T) (accepted room : ℕ) (entries : List EntryData) (book : BookData T) (e : EntryData) (test : List ℕ) → IsBook (shows store) accepted entries
+    → shown shows store room entries ≡ book → IsNextOf book e → IsPlanned plans renames book.held (table_of (ops_in book.entries)) e.op (DropChange test)
+    → (table : Table) → StandsFor (shows store) table → e.after ≡ totals_of (content_at (without_test test table))
+drop_here {T} shows plans renames store accepted room entries book e test b view next planned table stands =
+    let back = sym view in
+    let first = table_of (ops_in entries) in
+    let next_here = subst (λ (x : BookData T). IsNextOf x e) back next in
+    let leaves : table_after first e.op ≡ without_test test first = subst (λ (x : BookData T). IsPlanned plans renames x.held (table_of (ops_in x.entries)) e.op (DropChange test)) back planned in
+    ap (λ (x : EntryData). x.after) next_here
+    ∙ ap totals_at leaves
+    ∙ ap totals_of (content_without test first
+    ∙ ap (λ (sections : List SectionData). filter (λ s. not (bytes_eq s.key.test test)) sections) (sym b.stands.content ∙ stands.content)
+    ∙ sym (content_without test table))
 
 -- the book after a test is dropped
 pub dropped_book : {T P R : Type 0} (shows : T → ShownData) (plans : T → SubmissionData → P → Type 0) (renames : T → List ℕ → List ℕ → R → Type 0) (store without : T) (accepted room : ℕ) (entries : List EntryData) (book : BookData T) (new : List EntryData) (e : EntryData) (test : List ℕ) → IsBook (shows store) accepted entries → IsLawfulOp e.op

@@ -450,7 +450,7 @@ impl<A: Allocator + Copy, T: Table<A>, K: Keep<Of = Entry<A>>> Book<A, T, K> {
         ensures entry { self.new.entries ≡ self.old.entries ++ entry_data entry ∷ [] }
         ensures legal { IsLegal self.new.entries }
     {
-        self.store.drop_test(test.get());
+        self.store.drop_leaving(test.get(), entry.after);
         self.history.append(entry);
     }
 

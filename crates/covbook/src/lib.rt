@@ -16,12 +16,15 @@
 //! (`Snapshot<Entry>`). The rest of each entry then exists only in proofs. The contracts of `Book` always describe whole entries,
 //! so they are the same for all books.
 //!
-//! An example over `covnamed::Book`, proved and run in `covuses`: job 1 submits, then job 2 asks for a report. The first answer is
+//! An example over any table, proved and run in `covuses`: job 1 submits, then job 2 asks for a report. The first answer is
 //! `Answer::Accepted` or `Answer::Clash`, the second is `Answer::Text`.
 //!
 //! ```text
-//! pub fn answers(alloc: Global, submission: Submission) -> Result<(Answer, Answer), BookFault> {
-//!     let mut book = Book::new(alloc);
+//! pub fn answers<T: Table<Global>>(
+//!     alloc: Global,
+//!     submission: Submission,
+//! ) -> Result<(Answer, Answer), BookFault> {
+//!     let mut book: Book<Global, T> = Book::new(alloc);
 //!     let submit = Op::Submit(SubRef::of(alloc, submission)?);
 //!     let first = book.step(alloc, 1, &submit)?;
 //!     let second = book.step(alloc, 2, &Op::Report)?;

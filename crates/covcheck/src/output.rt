@@ -4,8 +4,7 @@ ghost use Rattle.std.specs.Prelude.{◌≡◌, ◌++◌, IfOk, OnOk, decimal, ma
 ghost use Rattle.covcheck.specs.SummaryLine.{first_text, summary_text, shown};
 
 use crate::text_summary::{SkippedLine, TextSummary};
-use covdata::Memory;
-use itoa::Buffer;
+use covdata::{Memory, append_number};
 use std::alloc::Allocator;
 
 /// Returns the summary line of an input, with a line feed but without the file's name. An example is
@@ -28,8 +27,7 @@ fn put_number<A: Allocator>(line: &mut Vec<u8, A>, words: &[u8], number: u64) ->
     ensures { OnOk result (line.new.items ≡ line.old.items ++ (words.now ++ decimal number)) }
 {
     line.extend_from_slice(words)?;
-    line.extend_from_slice(Buffer::new().format(number).as_bytes())?;
-    Ok(())
+    append_number(line, number)
 }
 
 /// Appends the beginning and the number of the first skipped line, if there is one.

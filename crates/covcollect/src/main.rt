@@ -2,8 +2,9 @@
 //! each command on standard output. A subcommand reads the files that its arguments name, and prints one text. An error that ends
 //! the program is reported on standard error and by the exit status.
 //!
-//! `main` only collects the arguments and makes the streams; the rest of the program is covrun's `run`. By the laws of covlaws, the
-//! output of `merge`, `extract`, `remove` and `gcov` reads back: a merge of this output alone prints the same text.
+//! `main` only collects the arguments, makes the streams and names the store; the rest of the program is covrun's `run`. By the
+//! laws of covlaws, the output of `merge`, `extract`, `remove` and `gcov` reads back: a merge of this output alone prints the same
+//! text.
 //!
 //! ```text
 //! $ covcollect <<'END'
@@ -24,6 +25,7 @@ pub use covlaws::{
     a_merge_of_merges_is_the_merge_of_all, each_report_of_a_history_reads_back, reports_read_back,
 };
 use covrun::{FromFiles, IntoFiles, Sinks, World, refuse, run};
+use covstore::Store;
 use covstream::{FromRead, FromWrite};
 use std::env::FillError;
 use std::io;
@@ -40,7 +42,10 @@ fn main(rt: HostRuntime) -> ExitCode {
         },
     };
     let status = match words_of_call(&rt) {
-        Ok(words) => run(&rt, &FromFiles::new(&rt), words.as_slice(), &mut world),
+        Ok(words) => {
+            let folder = FromFiles::new(&rt);
+            run::<_, _, _, _, _, _, Store>(&rt, &folder, words.as_slice(), &mut world)
+        }
         Err(fault) => refuse(fault, &mut world.sinks),
     };
     ExitCode::from(status)

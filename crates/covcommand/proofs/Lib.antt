@@ -4,6 +4,5 @@ pub mod Told
 pub mod Walks
 pub mod Rows
 pub mod Fitting
-pub mod Arguments
 pub mod Simple
 pub mod Calls

@@ -1,5 +1,5 @@
 -- The fault that is made of clap's error, and the subcommand that clap's getters give.
-use Rattle.std.proofs.Common.{◌≡◌, ◌∙◌, ◌⊎◌, inl, inr, Option, Some, None, refl, sym, ap₂, subst, option_map}
+use Rattle.std.proofs.Common.{◌≡◌, ◌≢◌, ◌∙◌, ◌⊎◌, inl, inr, Option, Some, None, Result, Ok, Err, OnErr, refl, sym, ap₂, subst, option_map}
 use Rattle.std.specs.Prelude.{Box}
 use Rattle.clap.specs.Kinds.{IsAmong, Kinds}
 use Rattle.std.specs.Box.{box_value}
@@ -13,6 +13,18 @@ use Rattle.clap.specs.declared.error.kind.ErrorKind.TheVariants as kind
 use Rattle.covcommand.specs.Fault.{IsFaultAmong, Tells}
 use Rattle.covcommand.specs.declared.fault.CommandFault.{CommandFault}
 use Rattle.covcommand.specs.declared.fault.CommandFault.TheVariants.{Help, Line, Memory, Version}
+
+-- what is something isn't nothing
+pub is_some : {A : Type 0} {a : A} {found : Option A} → Some a ≡ found → found ≢ None
+is_some {a = a} is none = some_is_something a (is ∙ none)
+  where
+    some_is_something : {B : Type 0} (b : B) → Some b ≡ None → ⊥
+    some_is_something b e = cc
+
+-- what holds at all holds for an error
+pub at_err : {A E : Type 0} (result : Result A E) {P : Type 0} → P → OnErr result P
+at_err (Ok value) holds = tt
+at_err (Err fault) holds = holds
 
 help_is_no_memory : kind.OutOfMemory ≡ kind.DisplayHelp → ⊥
 help_is_no_memory e = cc

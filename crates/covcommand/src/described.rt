@@ -1,8 +1,8 @@
 //! Describes the command line to clap.
 
-ghost use Rattle.std.specs.Prelude.{◌≡◌, IfOk, IsOkAnd, codes};
-ghost use Rattle.clap.specs.Built.{AddsSubcommand};
-ghost use Rattle.clap.specs.Words.{app_of};
+ghost use Rattle.std.specs.Prelude.{◌≡◌, IfOk, codes};
+ghost use Rattle.clap.specs.Walk.{Rule};
+ghost use Rattle.clap.specs.Simple.{App, app_of, with_rule, with_subcommand};
 ghost use Rattle.covcommand.specs.CommandLine as line;
 ghost use Rattle.covcommand.specs.Built.{HasNoGlobals, IsRule};
 
@@ -14,23 +14,47 @@ use std::alloc::{AllocError, Global};
 pub(crate) fn described<'a>(alloc: Global) -> Result<Command<'a>, AllocError>
     ensures { IfOk result (λ c. app_of c ≡ line.covcollect) }
 {
-    let merging = with(program(alloc), merge(alloc))?;
-    let summing = with(merging, summary(alloc))?;
-    let listing = with(summing, list(alloc))?;
-    let extracting = with(listing, extract(alloc))?;
-    let removing = with(extracting, remove(alloc))?;
-    let converting = with(removing, gcov(alloc))?;
+    let merging = with(Ok(program(alloc)), merge(alloc));
+    let summing = with(merging, summary(alloc));
+    let listing = with(summing, list(alloc));
+    let extracting = with(listing, extract(alloc));
+    let removing = with(extracting, remove(alloc));
+    let converting = with(removing, gcov(alloc));
     with(converting, check(alloc))
 }
 
-/// Adds a subcommand to `command`. A chain of calls with `?` in their arguments would take the prover minutes.
+/// Adds a subcommand to `command`. It takes both as results, so that a description is a chain of moves without an early return: each
+/// `?` would drop a command, which is dear to prove.
 fn with<'a>(
-    command: Command<'a>,
+    command: Result<Command<'a>, AllocError>,
     subcommand: Result<Command<'a>, AllocError>,
 ) -> Result<Command<'a>, AllocError>
-    ensures { IfOk result (λ c. IsOkAnd subcommand.entry (λ s. AddsSubcommand command.entry s c)) }
+    ensures { (before app : App) → IfOk command.entry (λ c. app_of c ≡ before) → IfOk subcommand.entry (HasNoGlobals app)
+        → IfOk result (λ c. app_of c ≡ with_subcommand before app.top) }
 {
-    command.subcommand(subcommand?)
+    command?.subcommand(subcommand?)
+}
+
+/// Adds an argument to `command`, which it takes as a result, as `with` does.
+fn taking<'a>(
+    command: Result<Command<'a>, AllocError>,
+    arg: Arg<'a>,
+) -> Result<Command<'a>, AllocError>
+    ensures { (app : App) (rule : Rule) → IfOk command.entry (HasNoGlobals app) → IsRule rule arg.entry
+        → IfOk result (HasNoGlobals (with_rule app rule)) }
+{
+    command?.arg(arg)
+}
+
+/// Adds help texts to `command`: what it does, and how to call it.
+fn explained<'a>(
+    command: Result<Command<'a>, AllocError>,
+    about: &'a str,
+    end: &'a str,
+) -> Result<Command<'a>, AllocError>
+    ensures { (app : App) → IfOk command.entry (HasNoGlobals app) → IfOk result (HasNoGlobals app) }
+{
+    Ok(command?.about(about).after_help(end))
 }
 
 /// Returns the description of the program, without its subcommands.
@@ -47,34 +71,30 @@ fn program<'a>(alloc: Global) -> Command<'a>
 fn merge<'a>(alloc: Global) -> Result<Command<'a>, AllocError>
     ensures { IfOk result (HasNoGlobals line.merge) }
 {
-    let merge = merging(alloc, "merge")?;
-    Ok(merge.about(help::MERGE).after_help(help::MERGE_END))
+    explained(merging(alloc, "merge"), help::MERGE, help::MERGE_END)
 }
 
 fn summary<'a>(alloc: Global) -> Result<Command<'a>, AllocError>
     ensures { IfOk result (HasNoGlobals line.summary) }
 {
-    let summary = listing(alloc, "summary")?
-        .about(help::SUMMARY)
-        .after_help(help::SUMMARY_END);
-    summary
-        .arg(limit(alloc, "fail-under-lines", help::FAIL_UNDER_LINES))?
-        .arg(limit(alloc, "fail-under-functions", help::FAIL_UNDER_FUNCTIONS))?
-        .arg(limit(alloc, "fail-under-branches", help::FAIL_UNDER_BRANCHES))
+    let summary = explained(listing(alloc, "summary"), help::SUMMARY, help::SUMMARY_END);
+    let lines = limit(alloc, "fail-under-lines", help::FAIL_UNDER_LINES);
+    let functions = limit(alloc, "fail-under-functions", help::FAIL_UNDER_FUNCTIONS);
+    let branches = limit(alloc, "fail-under-branches", help::FAIL_UNDER_BRANCHES);
+    taking(taking(taking(summary, lines), functions), branches)
 }
 
 fn list<'a>(alloc: Global) -> Result<Command<'a>, AllocError>
     ensures { IfOk result (HasNoGlobals line.list) }
 {
-    let list = listing(alloc, "list")?;
-    Ok(list.about(help::LIST).after_help(help::LIST_END))
+    explained(listing(alloc, "list"), help::LIST, help::LIST_END)
 }
 
 /// Returns the subcommand `name`, which prints totals: that of `merging` with the flag `--json`.
 fn listing<'a>(alloc: Global, name: &'a str) -> Result<Command<'a>, AllocError>
     ensures { IfOk result (HasNoGlobals (line.listing name.entry.now)) }
 {
-    merging(alloc, name)?.arg(json(alloc))
+    taking(merging(alloc, name), json(alloc))
 }
 
 /// Returns the subcommand `name` for tracefiles, with options for the number of jobs, the output file and the patterns of source
@@ -82,70 +102,66 @@ fn listing<'a>(alloc: Global, name: &'a str) -> Result<Command<'a>, AllocError>
 fn merging<'a>(alloc: Global, name: &'a str) -> Result<Command<'a>, AllocError>
     ensures { IfOk result (HasNoGlobals (line.merging name.entry.now)) }
 {
-    let merging = Command::new(alloc, name);
-    merging
-        .arg(several(alloc, "FILE", help::TRACEFILES))?
-        .arg(jobs(alloc))?
-        .arg(output(alloc))?
-        .arg(lcov2(alloc))?
-        .arg(strict(alloc, help::STRICT))?
-        .arg(large(alloc))?
-        .arg(patterns(alloc, "include", help::INCLUDE))?
-        .arg(patterns(alloc, "exclude", help::EXCLUDE))
+    let merging = taking(
+        Ok(Command::new(alloc, name)),
+        several(alloc, "FILE", help::TRACEFILES),
+    );
+    let merging = taking(merging, jobs(alloc));
+    let merging = taking(merging, output(alloc));
+    let merging = taking(merging, lcov2(alloc));
+    let merging = taking(merging, strict(alloc, help::STRICT));
+    let merging = taking(merging, large(alloc));
+    let merging = taking(merging, patterns(alloc, "include", help::INCLUDE));
+    taking(merging, patterns(alloc, "exclude", help::EXCLUDE))
 }
 
 fn extract<'a>(alloc: Global) -> Result<Command<'a>, AllocError>
     ensures { IfOk result (HasNoGlobals line.extract) }
 {
-    let extract = filter(alloc, "extract")?;
-    Ok(extract.about(help::EXTRACT).after_help(help::EXTRACT_END))
+    explained(filter(alloc, "extract"), help::EXTRACT, help::EXTRACT_END)
 }
 
 fn remove<'a>(alloc: Global) -> Result<Command<'a>, AllocError>
     ensures { IfOk result (HasNoGlobals line.remove) }
 {
-    let remove = filter(alloc, "remove")?;
-    Ok(remove.about(help::REMOVE).after_help(help::REMOVE_END))
+    explained(filter(alloc, "remove"), help::REMOVE, help::REMOVE_END)
 }
 
 /// Returns the subcommand `name` for one tracefile and patterns, with an option for the output file and three flags.
 fn filter<'a>(alloc: Global, name: &'a str) -> Result<Command<'a>, AllocError>
     ensures { IfOk result (HasNoGlobals (line.filtering name.entry.now)) }
 {
-    let filter = Command::new(alloc, name);
-    filter
-        .arg(tracefile(alloc))?
-        .arg(several(alloc, "PATTERN", help::PATTERNS))?
-        .arg(output(alloc))?
-        .arg(lcov2(alloc))?
-        .arg(strict(alloc, help::STRICT))?
-        .arg(large(alloc))
+    let filter = taking(Ok(Command::new(alloc, name)), tracefile(alloc));
+    let filter = taking(filter, several(alloc, "PATTERN", help::PATTERNS));
+    let filter = taking(filter, output(alloc));
+    let filter = taking(filter, lcov2(alloc));
+    let filter = taking(filter, strict(alloc, help::STRICT));
+    taking(filter, large(alloc))
 }
 
 fn gcov<'a>(alloc: Global) -> Result<Command<'a>, AllocError>
     ensures { IfOk result (HasNoGlobals line.gcov) }
 {
-    let gcov = Command::new(alloc, "gcov")
-        .about(help::GCOV)
-        .after_help(help::GCOV_END);
-    gcov.arg(several(alloc, "FILE", help::SOURCES))?
-        .arg(test(alloc))?
-        .arg(output(alloc))
+    let gcov = explained(Ok(Command::new(alloc, "gcov")), help::GCOV, help::GCOV_END);
+    let gcov = taking(gcov, several(alloc, "FILE", help::SOURCES));
+    let gcov = taking(gcov, test(alloc));
+    taking(gcov, output(alloc))
 }
 
 fn check<'a>(alloc: Global) -> Result<Command<'a>, AllocError>
     ensures { IfOk result (HasNoGlobals line.check) }
 {
-    let check = Command::new(alloc, "check")
-        .about(help::CHECK)
-        .after_help(help::CHECK_END);
-    check
-        .arg(several(alloc, "FILE", help::CHECKED))?
-        .arg(jobs(alloc))?
-        .arg(annotated(alloc))?
-        .arg(lcov2(alloc))?
-        .arg(strict(alloc, help::STRICT_CHECK))?
-        .arg(large(alloc))
+    let check = explained(
+        Ok(Command::new(alloc, "check")),
+        help::CHECK,
+        help::CHECK_END,
+    );
+    let check = taking(check, several(alloc, "FILE", help::CHECKED));
+    let check = taking(check, jobs(alloc));
+    let check = taking(check, annotated(alloc));
+    let check = taking(check, lcov2(alloc));
+    let check = taking(check, strict(alloc, help::STRICT_CHECK));
+    taking(check, large(alloc))
 }
 
 /// A required argument that may be repeated.

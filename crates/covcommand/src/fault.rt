@@ -55,14 +55,22 @@ impl CommandFault {
     pub(crate) fn of(alloc: Global, error: &LineError) -> CommandFault
         ensures { Tells (kind_of error.now) result }
     {
-        if error.kind() == ErrorKind::OutOfMemory {
-            return CommandFault::Memory;
-        }
         match format!(in alloc; "{error}") {
-            Ok(text) if error.kind() == ErrorKind::DisplayHelp => CommandFault::Help(text),
-            Ok(text) if error.kind() == ErrorKind::DisplayVersion => CommandFault::Version(text),
-            Ok(text) => CommandFault::Line(text),
+            Ok(text) => CommandFault::told(error.kind(), text),
             Err(_) => CommandFault::Memory,
+        }
+    }
+
+    /// The error for clap's error of this `kind`, with its text. Never allocates.
+    fn told(kind: ErrorKind, text: String) -> CommandFault
+        ensures tells { Tells kind result }
+        ensures memory { result ≡ CommandFault.Memory → kind ≡ ErrorKind.OutOfMemory }
+    {
+        match kind {
+            ErrorKind::DisplayHelp => CommandFault::Help(text),
+            ErrorKind::DisplayVersion => CommandFault::Version(text),
+            ErrorKind::OutOfMemory => CommandFault::Memory,
+            _ => CommandFault::Line(text),
         }
     }
 }

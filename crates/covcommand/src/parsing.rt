@@ -1,6 +1,6 @@
 //! Parses the command line.
 
-ghost use Rattle.std.specs.Prelude.{◌≡◌, ◌≤◌, ◌++◌, [], IfOk, IfErr, OnOk, map, true, Some, codes, length};
+ghost use Rattle.std.specs.Prelude.{◌≡◌, ◌≢◌, ◌≤◌, ◌++◌, [], IfOk, IfErr, OnOk, OnErr, map, true, Some, None, codes, length};
 ghost use Rattle.std.specs.String.{string_bytes};
 ghost use Rattle.clap.specs.Words.{rows_of, found_of, subcommand_of, takes, fault_of, first_of};
 ghost use Rattle.covcommand.specs.CommandLine.{covcollect};
@@ -123,7 +123,8 @@ fn output_for(
     command: &Command,
     found: &ArgMatches<'_>,
 ) -> Result<Option<String>, Memory>
-    ensures { IfOk result (GoesTo (rows_of (found_of found.now)) command.now) }
+    ensures output { IfOk result (GoesTo (rows_of (found_of found.now)) command.now) }
+    ensures some { OnErr result (first_of (codes "output") (rows_of (found_of found.now)) ≢ None) }
 {
     match command {
         Command::Session | Command::Check { .. } => Ok(None),
@@ -133,7 +134,8 @@ fn output_for(
 
 /// Returns the argument of `--output`, or `None` without the option.
 fn output_of(alloc: Global, found: &ArgMatches<'_>) -> Result<Option<String>, Memory>
-    ensures { IfOk result (IsOutputOf (rows_of (found_of found.now))) }
+    ensures output { IfOk result (IsOutputOf (rows_of (found_of found.now))) }
+    ensures some { OnErr result (first_of (codes "output") (rows_of (found_of found.now)) ≢ None) }
 {
     match found.get_str("output") {
         Some(path) => Ok(Some(String::from_str(alloc, path)?)),
@@ -255,7 +257,8 @@ fn limits_of(alloc: Global, found: &ArgMatches<'_>) -> Result<Limits, Memory>
 
 /// Returns the argument of the threshold option `id`, or `None` without the option.
 fn limit_of(alloc: Global, found: &ArgMatches<'_>, id: &str) -> Result<Option<Bytes>, Memory>
-    ensures { IfOk result (IsLimitOf id.now (rows_of (found_of found.now))) }
+    ensures limit { IfOk result (IsLimitOf id.now (rows_of (found_of found.now))) }
+    ensures some { OnErr result (first_of id.now (rows_of (found_of found.now)) ≢ None) }
 {
     match found.get_str(id) {
         Some(word) => Ok(Some(Bytes::of(alloc, word.as_bytes())?)),

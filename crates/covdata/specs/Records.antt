@@ -60,3 +60,8 @@ abbrev pub fault_number : LineFault → ℕ
 fault_number BadLine = 1
 fault_number NumberTooLarge = 2
 fault_number EmptyPath = 3
+
+abbrev pub fault_name : LineFault → List ℕ
+fault_name BadLine = codes "BadLine"
+fault_name NumberTooLarge = codes "NumberTooLarge"
+fault_name EmptyPath = codes "EmptyPath"

@@ -1,6 +1,7 @@
-ghost use Rattle.std.specs.Prelude.{◌≡◌, ◌↔◌, IfOk, OnOk, OnErr, IsOk, IsTrue, ◌++◌, [], length, take};
+ghost use Rattle.std.specs.Prelude.{◌≡◌, ◌↔◌, IfOk, OnOk, OnErr, IsOk, IsTrue, ◌++◌, [], decimal, length, take};
 
 use crate::memory::Memory;
+use itoa::Buffer;
 use std::alloc::{Allocator, Global};
 use std::marker::Model;
 
@@ -71,6 +72,14 @@ impl<A: Allocator> Bytes<A> {
         Ok(())
     }
 
+    /// Appends a number in decimal. Leaves the text unchanged on `Memory`.
+    pub fn append_number(&mut self, number: u64) -> Result<(), Memory>
+        ensures ok { OnOk result (self.new ≡ self.old ++ decimal number) }
+        ensures err { OnErr result (self.new ≡ self.old) }
+    {
+        append_number(&mut self.text, number)
+    }
+
     /// Shortens the text to at most `len` bytes.
     pub fn truncate(&mut self, len: usize)
         ensures { self.new ≡ take len self.old }
@@ -91,4 +100,13 @@ impl<A: Allocator> Bytes<A> {
     {
         Bytes::of(alloc, self.get())
     }
+}
+
+/// Appends a number in decimal. Leaves the text unchanged on `Memory`.
+pub fn append_number<A: Allocator>(text: &mut Vec<u8, A>, number: u64) -> Result<(), Memory>
+    ensures ok { OnOk result (text.new.items ≡ text.old.items ++ decimal number) }
+    ensures err { OnErr result (text.new.items ≡ text.old.items) }
+{
+    text.extend_from_slice(Buffer::new().format(number).as_bytes())?;
+    Ok(())
 }

@@ -1,7 +1,7 @@
 //! One line of a tracefile (geninfo(1) of LCOV 1.x, section FILES).
 
-ghost use Rattle.std.specs.Prelude.{◌≡◌};
-ghost use Rattle.covdata.specs.Records.{fault_number};
+ghost use Rattle.std.specs.Prelude.{◌≡◌, ◌≤◌, length};
+ghost use Rattle.covdata.specs.Records.{fault_name, fault_number, key_of};
 
 use thiserror::Error;
 
@@ -20,6 +20,23 @@ pub enum TotalKind {
     LineFound,
     /// `LH:`, the number of instrumented lines with an execution count above 0.
     LineHit,
+}
+
+impl TotalKind {
+    /// The key of the total's record.
+    pub(crate) fn key(self) -> &'static [u8]
+        ensures value { result.now ≡ key_of self }
+        ensures size { length result.now ≤ 4 }
+    {
+        match self {
+            TotalKind::FuncFound => b"FNF:",
+            TotalKind::FuncHit => b"FNH:",
+            TotalKind::BranchFound => b"BRF:",
+            TotalKind::BranchHit => b"BRH:",
+            TotalKind::LineFound => b"LF:",
+            TotalKind::LineHit => b"LH:",
+        }
+    }
 }
 
 /// The meaning of one line (a record). Names, paths and checksums are slices of the line.
@@ -67,15 +84,13 @@ pub enum TraceLine<'a> {
 
 /// Why a line can't be parsed.
 #[derive(Clone, Copy, Debug, PartialEq, Eq, Error)]
+#[error("{name}", name = self.name())]
 pub enum LineFault {
     /// The line begins with a known key, but the fields after the key are malformed.
-    #[error("BadLine")]
     BadLine = 1,
     /// The fields are well formed, but a number is too large: a count of 2^128 or more, or another number of 2^64 or more.
-    #[error("NumberTooLarge")]
     NumberTooLarge = 2,
     /// `SF:` with nothing after it.
-    #[error("EmptyPath")]
     EmptyPath = 3,
 }
 
@@ -85,5 +100,16 @@ impl LineFault {
         ensures { result ≡ fault_number self }
     {
         self as u32
+    }
+
+    /// The name of the error, as it is printed.
+    pub fn name(self) -> &'static str
+        ensures { result.now ≡ fault_name self }
+    {
+        match self {
+            LineFault::BadLine => "BadLine",
+            LineFault::NumberTooLarge => "NumberTooLarge",
+            LineFault::EmptyPath => "EmptyPath",
+        }
     }
 }

@@ -91,38 +91,75 @@ fn push_piece(alloc: Global, told: &mut String, piece: &PackedSubmission) -> Res
     Ok(())
 }
 
-/// Returns a line for each chunk of the tracefile, and a last line: the summary of the whole tracefile, `end` if no summary was
-/// collected, or the error.
-fn pieces_of<S: Source + Drop>(alloc: Global, large: LargeTracefile<S>) -> Result<String, Fail> {
-    let mut told = String::new(alloc);
-    let mut left = large;
-    for _ in 0..u64::MAX {
-        match left.next_piece(alloc) {
-            Ok(NextPiece::More(piece, rest)) => {
-                push_piece(alloc, &mut told, &piece)?;
-                left = rest;
-            }
-            Ok(NextPiece::Last(piece, held)) => {
-                push_piece(alloc, &mut told, &piece)?;
-                let end = match held {
-                    Some(held) => held_words(alloc, &held)?,
-                    None => String::from_str(alloc, "end\n")?,
-                };
-                told.push_str(end.as_str())?;
-                return Ok(told);
-            }
-            Err(fault) => {
-                let end = fault_words(alloc, fault)?;
-                told.push_str(end.as_str())?;
-                told.push('\n')?;
-                return Ok(told);
-            }
+/// Appends a line about the last chunk, and a last line: the summary of the whole tracefile, or `end` if none was collected.
+fn push_last(
+    alloc: Global,
+    told: &mut String,
+    piece: &PackedSubmission,
+    held: Option<&Held>,
+) -> Result<(), Fail> {
+    push_piece(alloc, told, piece)?;
+    match held {
+        Some(held) => told.push_str(held_words(alloc, held)?.as_str())?,
+        None => told.push_str("end\n")?,
+    }
+    Ok(())
+}
+
+/// Appends the error as a line.
+fn push_fault(alloc: Global, told: &mut String, fault: PieceFault) -> Result<(), Fail> {
+    told.push_str(fault_words(alloc, fault)?.as_str())?;
+    told.push('\n')?;
+    Ok(())
+}
+
+/// Appends what reading the next chunk gave, and returns the rest of the tracefile, if there is one.
+fn push_next<S: Source + Drop>(
+    alloc: Global,
+    told: &mut String,
+    next: Result<NextPiece<S>, PieceFault>,
+) -> Result<Option<LargeTracefile<S>>, Fail> {
+    match next {
+        Ok(NextPiece::More(piece, rest)) => {
+            push_piece(alloc, told, &piece)?;
+            Ok(Some(rest))
+        }
+        Ok(NextPiece::Last(piece, held)) => {
+            push_last(alloc, told, &piece, held.as_ref())?;
+            Ok(None)
+        }
+        Err(fault) => {
+            push_fault(alloc, told, fault)?;
+            Ok(None)
         }
     }
+}
+
+/// Appends a line for each chunk of the tracefile, and a last line: the summary of the whole tracefile, `end` if no summary was
+/// collected, or the error.
+fn push_pieces<S: Source + Drop>(
+    alloc: Global,
+    told: &mut String,
+    large: LargeTracefile<S>,
+) -> Result<(), Fail> {
+    let mut left = large;
+    for _ in 0..u64::MAX {
+        match push_next(alloc, told, left.next_piece(alloc))? {
+            Some(rest) => left = rest,
+            None => return Ok(()),
+        }
+    }
+    Ok(())
+}
+
+/// Returns the lines of `push_pieces`.
+fn pieces_of<S: Source + Drop>(alloc: Global, large: LargeTracefile<S>) -> Result<String, Fail> {
+    let mut told = String::new(alloc);
+    push_pieces(alloc, &mut told, large)?;
     Ok(told)
 }
 
-/// Reads the tracefile `text` in chunks, from a source that behaves as in `way`. Returns the lines of `pieces_of`.
+/// Reads the tracefile `text` in chunks, from a source that behaves as in `way`. Returns the lines of `push_pieces`.
 fn read_pieces(alloc: Global, version: LcovVersion, text: &[u8], way: Way) -> Result<String, Fail> {
     let source = Given {
         bytes: text,

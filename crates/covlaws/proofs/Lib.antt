@@ -19,3 +19,11 @@ pub mod ShownSizes
 pub mod ShownTotals
 pub mod ShownValues
 pub mod SameContentAsRows
+pub mod ChunkRows
+pub mod LinesAlike
+pub mod Version1
+pub mod WithoutSkipped
+pub mod Numbered
+pub mod JsonLexemes
+pub mod JsonTokens
+pub mod ListBack

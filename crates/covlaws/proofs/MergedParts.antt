@@ -66,14 +66,14 @@ among_shown rows c i =
 
 -- ---- the rows of submissions
 
-abbrev rows_in : List SubmissionData → List Row
+abbrev pub rows_in : List SubmissionData → List Row
 rows_in submissions = flat_map rows_of submissions
 
 lawful_all : (submissions : List SubmissionData) → AllByRecursion IsLawful submissions → AllByRecursion IsLawfulRow (rows_in submissions)
 lawful_all [] lawful = tt
 lawful_all (s ∷ submissions) lawful = All-joined IsLawfulRow (rows_of s) (rows_in submissions) (lawful_rows s lawful.0) (lawful_all submissions lawful.1)
 
-rows_in_joined : (some others : List SubmissionData) → rows_in (some ++ others) ≡ rows_in some ++ rows_in others
+pub rows_in_joined : (some others : List SubmissionData) → rows_in (some ++ others) ≡ rows_in some ++ rows_in others
 rows_in_joined some others = flat_map-append rows_of some others
 
 -- if submissions agree, the first of them agree without the rest
@@ -157,7 +157,7 @@ module _ (order : SameInAnyOrder) where
 
 -- ---- a printed text depends only on the table's content
 
-text_told : (op : OpData) → IsText op → (some other : Table) → content_at some ≡ content_at other → answer_of some op ≡ answer_of other op
+pub text_told : (op : OpData) → IsText op → (some other : Table) → content_at some ≡ content_at other → answer_of some op ≡ answer_of other op
 text_told (SubmitOp submission) asks some other same = absurd asks
 text_told (DropTestOp test) asks some other same = absurd asks
 text_told (RenameOp old new) asks some other same = absurd asks
@@ -168,14 +168,14 @@ text_told SummaryOp asks some other same = ap (λ (sections : List SectionData).
 
 -- ---- the tables
 
-abbrev AllAreTaken : Type 0
+abbrev pub AllAreTaken : Type 0
 AllAreTaken = (submissions : List SubmissionData) → AreAgreeing submissions → table_of (map SubmitOp submissions) ≡ map rows_of submissions
 
 abbrev HasOneReading : Type 0
 HasOneReading = (text : List ℕ) (some other : SubmissionData) → IsReadAs text some → IsReadAs text other → some ≡ other
 
 module _ (taken : AllAreTaken) where
-  content_taken : (submissions : List SubmissionData) → AreAgreeing submissions → content_at (table_of (map SubmitOp submissions)) ≡ content_of (rows_in submissions)
+  pub content_taken : (submissions : List SubmissionData) → AreAgreeing submissions → content_at (table_of (map SubmitOp submissions)) ≡ content_of (rows_in submissions)
   content_taken submissions agree = ap content_at (taken submissions agree) ∙ ap content_of (flat_map-map (λ (rows : List Row). rows) rows_of submissions)
 
   module _ (spells : PrintedSpells) (one_after_other : OneAfterOther) (one : HasOneReading) where

@@ -1,11 +1,10 @@
 //! Prints the lines about kinds of points below their thresholds.
 
-ghost use Rattle.std.specs.Prelude.{◌≡◌, ◌++◌, [], OnOk, IsOk, decimal};
+ghost use Rattle.std.specs.Prelude.{◌≡◌, ◌++◌, [], OnOk, IsOk};
 ghost use Rattle.covlimit.specs.Shortfalls.{numbers_text, shortfall, shortfall_line};
 
 use crate::rate::Rate;
 use covdata::{Bytes, Memory};
-use itoa::Buffer;
 use std::alloc::Allocator;
 
 /// Appends a line about this kind of points if they are below `limit`. Otherwise, or if `limit` is `None`, appends nothing and
@@ -56,15 +55,7 @@ fn put_numbers<A: Allocator>(
 {
     text.append(kind)?;
     text.append(b": ")?;
-    put_number(hit, text)?;
+    text.append_number(hit)?;
     text.append(b" of ")?;
-    put_number(found, text)
-}
-
-/// Appends a number in decimal.
-fn put_number<A: Allocator>(number: u64, text: &mut Bytes<A>) -> Result<(), Memory>
-    ensures { OnOk result (text.new ≡ text.old ++ decimal number) }
-{
-    let mut digits = Buffer::new();
-    text.append(digits.format(number).as_bytes())
+    text.append_number(found)
 }

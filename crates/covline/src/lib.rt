@@ -25,7 +25,6 @@ mod iter;
 pub mod laws;
 mod print;
 mod reader;
-mod tail;
 mod text_lines;
 
 pub use covdata::{

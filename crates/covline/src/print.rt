@@ -1,14 +1,13 @@
 //! Prints one line of a tracefile.
 
-ghost use Rattle.std.specs.Prelude.{◌≡◌, ◌++◌, ◌∷◌, [], OnOk, OnErr, IsOk, ◌≤◌, ◌+◌, ℕ, List, codes, decimal, length, option_map};
+ghost use Rattle.std.specs.Prelude.{◌≡◌, ◌++◌, ◌∷◌, [], OnOk, OnErr, IsOk, ◌≤◌, ℕ, List, decimal, length, option_map};
 ghost use Rattle.covdata.specs.Delimiters.{line_feed, comma};
 ghost use Rattle.covline.specs.Lines.{lines_of};
-ghost use Rattle.covdata.specs.Records.{Branch, Line, Skip, line_data, key_of};
+ghost use Rattle.covdata.specs.Records.{Branch, Line, Skip, Total, line_data};
 ghost use Rattle.covline.specs.Spells.{Spells};
-ghost use Rattle.covdata.specs.Printed.{line_text, printed, taken_text, IsReadable};
+ghost use Rattle.covdata.specs.Printed.{line_text, printed, IsReadable};
 
-use crate::tail::Tail;
-use covdata::{BranchPoint, Bytes, Memory, TotalKind, TraceLine};
+use covdata::{BranchPoint, Bytes, Memory, RecordBuffer, TotalKind, TraceLine};
 use std::alloc::Allocator;
 
 /// Appends the record to `text`, as a line with a line feed. Leaves `text` unchanged on `Memory`. Appends nothing for `Skip`, and
@@ -87,10 +86,8 @@ fn append_named<A: Allocator>(
         (text.new ≡ text.old ++ (key.now ++ decimal number ++ comma ∷ name.now ++ line_feed ∷ [])) }
     ensures err { OnErr result ((more : List ℕ) × (text.new ≡ text.old ++ more)) }
 {
-    let mut front = Tail::new();
-    front.put(b',');
-    front.put_number(number);
-    front.put_text(key);
+    let mut front = RecordBuffer::new();
+    front.write_named(key, number);
     append_text(front.get(), name, text)
 }
 
@@ -104,27 +101,9 @@ fn append_branch<A: Allocator>(
         (text.new ≡ text.old ++ printed (Branch branch.line branch.block branch.branch taken)) }
     ensures err { OnErr result (text.new ≡ text.old) }
 {
-    let mut line = Tail::new();
-    line.put(b'\n');
-    put_taken(taken, &mut line);
-    line.put_field(u128::from(branch.branch));
-    line.put_field(u128::from(branch.block));
-    line.put_field(u128::from(branch.line));
-    line.put_text(b"BRDA:");
-    text.append(line.get())
-}
-
-/// Prepends how often a branch was taken (`-` for `None`) to `line`.
-#[inline]
-fn put_taken(taken: Option<u128>, line: &mut Tail)
-    requires { length line.old + 39 ≤ 168 }
-    ensures text { line.new ≡ taken_text taken ++ line.old }
-    ensures size { length line.new ≤ length line.old + 39 }
-{
-    match taken {
-        Some(taken) => line.put_number(taken),
-        None => line.put(b'-'),
-    }
+    let mut record = RecordBuffer::new();
+    record.write_branch(branch, taken);
+    text.append(record.get())
 }
 
 /// Appends the record of an instrumented line.
@@ -138,45 +117,29 @@ fn append_line_count<A: Allocator>(
         (text.new ≡ text.old ++ printed (Line line count (option_map (λ c. c.now) checksum.entry))) }
     ensures err { OnErr result ((more : List ℕ) × (text.new ≡ text.old ++ more)) }
 {
+    let mut record = RecordBuffer::new();
     match checksum {
-        Some(checksum) => append_text(line_count_front(line, count, b',').get(), checksum, text),
-        None => text.append(line_count_front(line, count, b'\n').get()),
+        Some(checksum) => {
+            record.write_line_count(line, count, b',');
+            append_text(record.get(), checksum, text)
+        }
+        None => {
+            record.write_line_count(line, count, b'\n');
+            text.append(record.get())
+        }
     }
 }
 
-/// Returns the front of an instrumented line's record: `DA:`, the line, a comma, the count and the byte `end`.
-#[inline]
-fn line_count_front(line: u64, count: u128, end: u8) -> Tail
-    ensures { result ≡ codes "DA:" ++ decimal line ++ comma ∷ decimal count ++ end ∷ [] }
-{
-    let mut front = Tail::new();
-    front.put(end);
-    front.put_number(count);
-    front.put_field(u128::from(line));
-    front.put_text(b"DA:");
-    front
-}
-
-/// Appends the record of a total: the key of `kind`, and `value`.
+/// Appends the record of a total.
 fn append_total<A: Allocator>(
     kind: TotalKind,
     value: u64,
     text: &mut Bytes<A>,
 ) -> Result<(), Memory>
-    ensures ok { OnOk result (text.new ≡ text.old ++ (key_of kind ++ decimal value ++ line_feed ∷ [])) }
+    ensures ok { OnOk result (text.new ≡ text.old ++ printed (Total kind value)) }
     ensures err { OnErr result (text.new ≡ text.old) }
 {
-    let key: &[u8] = match kind {
-        TotalKind::FuncFound => b"FNF:",
-        TotalKind::FuncHit => b"FNH:",
-        TotalKind::BranchFound => b"BRF:",
-        TotalKind::BranchHit => b"BRH:",
-        TotalKind::LineFound => b"LF:",
-        TotalKind::LineHit => b"LH:",
-    };
-    let mut line = Tail::new();
-    line.put(b'\n');
-    line.put_number(u128::from(value));
-    line.put_text(key);
-    text.append(line.get())
+    let mut record = RecordBuffer::new();
+    record.write_total(kind, value);
+    text.append(record.get())
 }

@@ -8,10 +8,8 @@ ghost use Rattle.covreport.specs.ChoiceView.{choice_data};
 ghost use Rattle.covlist.specs.Chosen.{chosen_files, totals_of_chosen};
 ghost use Rattle.covlist.specs.Json.{file_object, hexadecimal_name, list_json_of, members, name_member, objects, points, string_name, summary_json_of};
 
-use crate::numbers::put_number;
 use covdata::{Bytes, Memory};
-use covreport::{Choice, chosen_totals};
-use covstore::Store;
+use covreport::{Choice, Table, chosen_totals};
 use covtable::{FileTotals, Totals};
 use json::Writer;
 use std::alloc::Allocator;
@@ -24,12 +22,12 @@ use std::alloc::Allocator;
 /// # Errors
 ///
 /// `Memory` if an allocation failed.
-pub fn list_json<A: Allocator + Copy>(
+pub fn list_json<A: Allocator + Copy, T: Table<A>>(
     alloc: A,
-    store: &Store<A>,
+    store: &T,
     choice: &Choice<A>,
 ) -> Result<Bytes<A>, Memory>
-    ensures { IfOk result (λ t. t ≡ list_json_of (chosen_files (choice_data choice.now) store.now.sections) (totals_of_chosen (choice_data choice.now) store.now.sections)) }
+    ensures { IfOk result (λ t. t ≡ list_json_of (chosen_files (choice_data choice.now) (T.shown store.now).sections) (totals_of_chosen (choice_data choice.now) (T.shown store.now).sections)) }
 {
     let mut text = Bytes::new(alloc);
     text.append(b"{\"files\":[")?;
@@ -56,16 +54,17 @@ pub fn summary_json<A: Allocator>(alloc: A, totals: &Totals) -> Result<Bytes<A>,
 }
 
 /// Appends the JSON objects of the chosen files.
-fn put_objects<A: Allocator + Copy>(
+fn put_objects<A: Allocator + Copy, T: Table<A>>(
     alloc: A,
-    store: &Store<A>,
+    store: &T,
     choice: &Choice<A>,
     text: &mut Bytes<A>,
 ) -> Result<(), Memory>
-    ensures { OnOk result (text.new ≡ text.old ++ objects (chosen_files (choice_data choice.now) store.now.sections)) }
+    ensures { OnOk result (text.new ≡ text.old ++ objects (chosen_files (choice_data choice.now) (T.shown store.now).sections)) }
 {
     let mut is_first = true;
-    for file in store.files() {
+    let files = store.files(alloc)?;
+    for file in files {
         if choice.takes(file.path) {
             put_object(alloc, file, is_first, text)?;
             is_first = false;
@@ -156,8 +155,8 @@ fn put_points<A: Allocator>(hit: u64, found: u64, text: &mut Bytes<A>) -> Result
     ensures { OnOk result (text.new ≡ text.old ++ points hit found) }
 {
     text.append(b"{\"found\":")?;
-    put_number(found, text)?;
+    text.append_number(found)?;
     text.append(b",\"hit\":")?;
-    put_number(hit, text)?;
+    text.append_number(hit)?;
     text.append(b"}")
 }

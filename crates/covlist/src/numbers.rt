@@ -1,18 +1,10 @@
-//! Appends decimal numbers and spaces to a text.
+//! The width of decimal numbers, and spaces in front of them.
 
 ghost use Rattle.std.specs.Prelude.{◌≡◌, ◌≤◌, ◌++◌, OnOk, decimal, length, replicate};
 
 use covdata::{Bytes, Memory};
 use itoa::Buffer;
 use std::alloc::Allocator;
-
-/// Appends a number in decimal.
-pub(crate) fn put_number<A: Allocator>(number: u64, text: &mut Bytes<A>) -> Result<(), Memory>
-    ensures { OnOk result (text.new ≡ text.old ++ decimal number) }
-{
-    let mut digits = Buffer::new();
-    text.append(digits.format(number).as_bytes())
-}
 
 /// How many digits a number has in decimal.
 pub(crate) fn digits(number: u64) -> usize

@@ -8,11 +8,10 @@ ghost use Rattle.covlist.specs.Chosen.{chosen_among, chosen_files, totals_of_cho
 ghost use Rattle.covlist.specs.Shown.{shown_name};
 ghost use Rattle.covlist.specs.Table.{cell, file_row, heading, headings, list_table_of, numbers as numbers_of, numbers_width as width_of_numbers, percentage, rate, right_aligned, row};
 
-use crate::numbers::{digits, put_number, put_spaces};
+use crate::numbers::{digits, put_spaces};
 use crate::shown::put_shown_name;
 use covdata::{Bytes, Memory};
-use covreport::{Choice, chosen_totals, tenths};
-use covstore::Store;
+use covreport::{Choice, Table, chosen_totals, put_tenths, tenths};
 use covtable::{FileTotals, Totals};
 use std::alloc::Allocator;
 
@@ -24,31 +23,33 @@ use std::alloc::Allocator;
 /// # Errors
 ///
 /// `Memory` if an allocation failed.
-pub fn list_table<A: Allocator + Copy>(
+pub fn list_table<A: Allocator + Copy, T: Table<A>>(
     alloc: A,
-    store: &Store<A>,
+    store: &T,
     choice: &Choice<A>,
 ) -> Result<Bytes<A>, Memory>
-    ensures { IfOk result (λ t. t ≡ list_table_of (chosen_files (choice_data choice.now) store.now.sections) (totals_of_chosen (choice_data choice.now) store.now.sections)) }
+    ensures { IfOk result (λ t. t ≡ list_table_of (chosen_files (choice_data choice.now) (T.shown store.now).sections) (totals_of_chosen (choice_data choice.now) (T.shown store.now).sections)) }
 {
     let all = chosen_totals(store, choice);
     let mut text = Bytes::new(alloc);
     put_headings(&all, &mut text)?;
-    put_rows(store, choice, &all, &mut text)?;
+    put_rows(alloc, store, choice, &all, &mut text)?;
     put_row(&all, b"Total", &all, &mut text)?;
     Ok(text)
 }
 
 /// Appends the rows of the chosen files.
-fn put_rows<A: Allocator + Copy>(
-    store: &Store<A>,
+fn put_rows<A: Allocator + Copy, T: Table<A>>(
+    alloc: A,
+    store: &T,
     choice: &Choice<A>,
     all: &Totals,
     text: &mut Bytes<A>,
 ) -> Result<(), Memory>
-    ensures { OnOk result (text.new ≡ text.old ++ flat_map (file_row all.now) (chosen_files (choice_data choice.now) store.now.sections)) }
+    ensures { OnOk result (text.new ≡ text.old ++ flat_map (file_row all.now) (chosen_files (choice_data choice.now) (T.shown store.now).sections)) }
 {
-    for file in store.files() {
+    let files = store.files(alloc)?;
+    for file in files {
         put_if_chosen(choice, all, file, text)?;
     }
     Ok(())
@@ -153,9 +154,7 @@ fn put_percentage<A: Allocator>(tenths: u32, text: &mut Bytes<A>) -> Result<(), 
     let part = u64::from(tenths % 10);
     let len = digits(whole) + 1 + digits(part) + 1;
     put_spaces(6usize.saturating_sub(len), text)?;
-    put_number(whole, text)?;
-    text.append(b".")?;
-    put_number(part, text)?;
+    put_tenths(tenths, text)?;
     text.append(b"%")
 }
 
@@ -170,7 +169,7 @@ fn put_numbers<A: Allocator>(
 {
     let len = digits(hit) + 1 + digits(found);
     put_spaces(width.saturating_sub(len), text)?;
-    put_number(hit, text)?;
+    text.append_number(hit)?;
     text.append(b"/")?;
-    put_number(found, text)
+    text.append_number(found)
 }

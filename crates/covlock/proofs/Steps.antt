@@ -1,11 +1,12 @@
 -- A step under the lock: its entry, receipt, fault and news follow from the history before it.
-use Rattle.std.proofs.Common.{◌≡◌, ◌∙◌, ◌⊎◌, inl, inr, ℕ, ◌<◌, ◌≤◌, List, [], ◌∷◌, ◌++◌, length, Result, Ok, Err, refl, sym, ap, arith, subst}
+use Rattle.std.proofs.Common.{◌≡◌, ◌∙◌, ◌⊎◌, inl, inr, ℕ, suc, ◌+◌, ◌<◌, ◌≤◌, List, [], ◌∷◌, ◌++◌, length, Result, Ok, Err, refl, sym, ap, arith, subst}
 use Rattle.std.proofs.lemmas.List.{length_push}
 use Rattle.covbook.specs.declared.book.BookFault.{BookFault}
 use Rattle.covbook.specs.declared.book.BookFault.TheVariants as faults
 use Rattle.covbook.specs.Op.{OpData, EntryData, ReceiptData}
 use Rattle.covbook.specs.Step.{ComesNext, IsLegal, answer_of, next_entry, receipt_of, table_of, ops_in, max_entries}
 use Rattle.covlock.specs.Call.{IsNewsOf}
+use Rattle.covlock.specs.Weight.{weight_at, weight_below}
 
 -- a step is made ready on the history that was there before: so its entry comes right after that history
 pub entry_after : (history ready after : List EntryData) (job asker : ℕ) (op asked : OpData) → ready ≡ history → job ≡ asker → op ≡ asked
@@ -53,7 +54,7 @@ noted_is noted ready after news entry made same is_made next grown is_news =
     is_news ∙ ap (λ (h : List EntryData). h ++ entry ∷ []) same ∙ ap (λ (e : EntryData). ready ++ e ∷ []) (is_made ∙ next) ∙ sym grown
 
 -- if the news hold the history after the step, they are news of the call
-pub news_of : (job : ℕ) (asked : OpData) (told : ReceiptData) (before after news : List EntryData) → news ≡ after → IsLegal after → after ≡ before ++ next_entry before job asked ∷ []
+news_of : (job : ℕ) (asked : OpData) (told : ReceiptData) (before after news : List EntryData) → news ≡ after → IsLegal after → after ≡ before ++ next_entry before job asked ∷ []
     → told ≡ record { place = length before; op = asked; answer = answer_of (table_of (ops_in before)) asked } → IsNewsOf job asked told news
 news_of job asked told before after news is_after legal grown is_told =
     let entry = next_entry before job asked in
@@ -70,3 +71,19 @@ news_of job asked told before after news is_after legal grown is_told =
       answer = sym (ap (λ (r : ReceiptData). r.answer) is_told);
       place = omega (arith, long, place, length_push before entry);
     }
+
+-- a step is made ready on the history that was there before, and its news hold the history after it: so they are news of the call
+pub news_told : (asker : ℕ) (asked : OpData) (made : EntryData) (told : ReceiptData) (history ready after news : List EntryData) → ready ≡ history → made.job ≡ asker → made.op ≡ asked
+    → after ≡ ready ++ next_entry ready made.job made.op ∷ [] → IsLegal after → told ≡ receipt_of (length ready) (next_entry ready made.job made.op) → news ≡ after → IsNewsOf asker asked told news
+news_told asker asked made told history ready after news same is_job is_op grown legal is_told is_after =
+    news_of asker asked told history after news is_after legal (entry_after history ready after made.job asker made.op asked same is_job is_op grown) (told_later history ready made.job made.op asked told same is_op is_told)
+
+next_is : (n m : ℕ) → n ≡ m + 1 → n ≡ suc m
+next_is n m e = omega (arith, e)
+
+-- the count of the calls of a history with one more entry has the weight of this entry's place more
+pub counted_next : (before after : List EntryData) (total next place : ℕ) → total ≡ weight_below (length before) → length after ≡ length before + 1 → place ≡ length before → next ≡ total + weight_at place
+    → next ≡ weight_below (length after)
+counted_next before after total next place counted long here adds =
+    let more : weight_below (length after) ≡ weight_below (length before) + weight_at (length before) = ap (λ (n : ℕ). weight_below n) (next_is (length after) (length before) long) in
+    omega (arith, counted, here, adds, more)

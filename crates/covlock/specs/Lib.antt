@@ -1,5 +1,8 @@
 pub mod Start
 pub mod Seat
+pub mod Weight
+pub mod Latest
+pub mod Logs
 pub mod Handed
 pub mod Call
 pub mod SharedState

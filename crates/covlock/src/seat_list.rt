@@ -1,8 +1,9 @@
 //! Lists of seats.
 
+use crate::latest::longest;
 use crate::seat::Seat;
 use covdata::Memory;
-use covnews::Name;
+use covnews::{Name, News};
 use std::alloc::{Allocator, Global};
 use std::marker::Model;
 use std::sync::ledger::Share;
@@ -24,7 +25,9 @@ impl<L: Name, A: Allocator> Model for Seats<L, A> {
 
 impl<L: Name, A: Allocator> Seats<L, A> {
     ghost use Rattle.std.specs.Prelude.{◌≡◌, ◌+◌, ◌≤◌, ◌++◌, [], ◌∷◌, length, IsTrue, OnOk, OnErr, true, MatchOption, IfOk};
-    ghost use Rattle.covlock.specs.Seat.{calls_in, first_seats};
+    ghost use Rattle.covbook.specs.Kept.{IsPrefix};
+    ghost use Rattle.covlock.specs.Logs.{HaveLogs};
+    ghost use Rattle.covlock.specs.Seat.{first_seats};
     ghost use Rattle.covlock.specs.Handed.{is_seated, AllAreSeated, IsLeastMissing};
 
     /// The empty list. Never allocates.
@@ -85,16 +88,22 @@ impl<L: Name, A: Allocator> Seats<L, A> {
         None
     }
 
-    /// Consumes the seats and adds their shares to the share `to`.
-    pub(crate) fn give_shares(self, to: &mut Share<L>)
+    /// Consumes the seats and adds their shares to the share `to`. Returns the longest of `news` and the seats' latest news, so the
+    /// seats' logs are logs of one history.
+    pub(crate) fn give_shares(self, to: &mut Share<L>, news: News<L>) -> News<L>
         requires few { to.old.parts ≤ L.parts }
         ensures parts { to.new.parts ≡ to.old.parts + length self }
         ensures few { to.new.parts ≤ L.parts }
-        ensures amount { to.new.amount ≡ to.old.amount + calls_in self }
+        ensures logs { HaveLogs result self to.old.amount to.new.amount }
+        ensures news { IsPrefix news result }
     {
+        let mut all = news;
         for seat in self.seats {
-            to.merge(seat.into_share());
+            let (share, latest) = seat.into_parts();
+            to.merge(share);
+            all = longest(all, &latest);
         }
+        all
     }
 }
 

@@ -135,7 +135,8 @@ impl<L: Name, A: Allocator + Copy, T: Table<A>, K: Keep<Of = Entry<A>>> Shared<L
 }
 
 impl<L: Name, A: Allocator, T: Table<A>, K: Keep<Of = Entry<A>>> Shared<L, A, T, K> {
-    ghost use Rattle.std.specs.Prelude.{◌≡◌, length, IfOk, IfErr, MatchResult};
+    ghost use Rattle.std.specs.Prelude.{◌≡◌, ◌≤◌, length, IfOk, IfErr, MatchResult};
+    ghost use Rattle.std.specs.List.{AllByRecursion};
     ghost use Rattle.covbook.specs.Op.{AreLawfulOps};
     ghost use Rattle.covbook.specs.Step.{IsLegal, ops_in};
     ghost use Rattle.covlock.specs.Seat.{calls_in};
@@ -164,6 +165,7 @@ impl<L: Name, A: Allocator, T: Table<A>, K: Keep<Of = Entry<A>>> Shared<L, A, T,
         ensures history { IfOk result (λ closed. IsLegal closed.0.entries) }
         ensures lawful { IfOk result (λ closed. AreLawfulOps (ops_in closed.0.entries)) }
         ensures calls { IfOk result (λ closed. length closed.0.entries ≡ calls_in seats) }
+        ensures seen { IfOk result (λ closed. AllByRecursion (λ s. s.seen ≤ length closed.0.entries) seats) }
         ensures news { IfOk result (λ closed. closed.1 ≡ closed.0.entries) }
         ensures back { MatchResult result (λ _. Unit {0}) (λ back. (back.0 ≡ self) × (back.1 ≡ seats)) }
     {
@@ -175,7 +177,8 @@ impl<L: Name, A: Allocator, T: Table<A>, K: Keep<Of = Entry<A>>> Shared<L, A, T,
 }
 
 impl<L: Name, A: Allocator, T: Table<A>> Shared<L, A, T> {
-    ghost use Rattle.std.specs.Prelude.{◌≡◌, length, IfOk, MatchResult};
+    ghost use Rattle.std.specs.Prelude.{◌≡◌, ◌≤◌, length, IfOk, MatchResult};
+    ghost use Rattle.std.specs.List.{AllByRecursion};
     ghost use Rattle.covbook.specs.Op.{AreLawfulOps};
     ghost use Rattle.covbook.specs.Step.{IsLegal, ops_in};
     ghost use Rattle.covlock.specs.Seat.{calls_in};
@@ -194,6 +197,7 @@ impl<L: Name, A: Allocator, T: Table<A>> Shared<L, A, T> {
         ensures history { IfOk result (λ closed. IsLegal closed.0) }
         ensures lawful { IfOk result (λ closed. AreLawfulOps (ops_in closed.0)) }
         ensures calls { IfOk result (λ closed. length closed.0 ≡ calls_in seats) }
+        ensures seen { IfOk result (λ closed. AllByRecursion (λ s. s.seen ≤ length closed.0) seats) }
         ensures news { IfOk result (λ closed. closed.1 ≡ closed.0) }
         ensures back { MatchResult result (λ _. Unit {0}) (λ back. (back.0 ≡ self) × (back.1 ≡ seats)) }
     {

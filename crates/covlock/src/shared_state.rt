@@ -95,16 +95,18 @@ impl<L: Name, A: Allocator + Copy, T: Table<A>, K: Keep<Of = Entry<A>>> SharedSt
             return Err(BookFault::Memory);
         };
         let receipt = self.book.finish(ready);
-        seat.count_call(&mut self.count, receipt.place);
         let news = self.publisher.publish(rt);
+        seat.count_call(&mut self.count, &receipt, &news);
         Ok((receipt, news))
     }
 }
 
 impl<L: Name, A: Allocator, T: Table<A>, K: Keep<Of = Entry<A>>> SharedState<L, A, T, K> {
     ghost use Rattle.std.specs.Prelude.{◌≡◌, ◌≤◌, length, IfOk, IfErr};
+    ghost use Rattle.std.specs.List.{AllByRecursion};
     ghost use Rattle.covbook.specs.Op.{AreLawfulOps};
     ghost use Rattle.covbook.specs.Step.{IsLegal, ops_in};
+    ghost use Rattle.covlock.specs.Handed.{AllAreSeated};
     ghost use Rattle.covlock.specs.Seat.{calls_in};
     ghost use Rattle.covnews.specs.declared.fault.ReaderFault.TheVariants as reader_faults;
 
@@ -120,12 +122,13 @@ impl<L: Name, A: Allocator, T: Table<A>, K: Keep<Of = Entry<A>>> SharedState<L, 
 
     /// Takes all seats back, and returns the book and news of its history. Waits for readers that are inside a read.
     pub(crate) fn close<R: Wait>(self, rt: &R, seats: Seats<L, A>) -> (Book<A, T, K>, News<L>)
-        requires { L.parts ≤ length seats }
+        requires { AllAreSeated L.parts seats }
         ensures history { result.0.entries ≡ self }
         ensures news { result.1 ≡ self }
         ensures legal { IsLegal self }
         ensures lawful { AreLawfulOps (ops_in self) }
         ensures calls { length self ≡ calls_in seats }
+        ensures seen { AllByRecursion (λ s. s.seen ≤ length self) seats }
     {
         let SharedState {
             book,
@@ -133,8 +136,9 @@ impl<L: Name, A: Allocator, T: Table<A>, K: Keep<Of = Entry<A>>> SharedState<L, 
             mut rest,
             publisher,
         } = self;
-        seats.give_shares(&mut rest);
+        let news = publisher.close(rt);
+        seats.give_shares(&mut rest, news.copy());
         count.audit(&mut rest);
-        (book, publisher.close(rt))
+        (book, news)
     }
 }

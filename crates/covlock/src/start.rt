@@ -1,6 +1,5 @@
 //! The values that a shared book is made of.
 
-use covdata::Memory;
 use covnews::HistorySeed;
 use std::alloc::{Allocator, Global};
 use std::marker::{Model, PhantomData};
@@ -30,17 +29,6 @@ impl OpenFault {
         ensures { result ≡ open_number self }
     {
         self as u32
-    }
-}
-
-impl From<Memory> for OpenFault {
-    ghost use Rattle.std.specs.Prelude.{◌≡◌};
-    ghost use Rattle.covlock.specs.declared.start.OpenFault.TheVariants as faults;
-
-    ghost from_gives = { λ _ e. e ≡ faults.Memory };
-
-    fn from(_refused: Memory) -> OpenFault {
-        OpenFault::Memory
     }
 }
 

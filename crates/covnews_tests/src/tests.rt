@@ -1,10 +1,11 @@
-//! Tests of a publisher and its readers. The entries are those of a `covnamed::Book`.
+//! Tests of a publisher and its readers. The entries are those of a book over covstore's `Store`.
 
 ghost use Rattle.std.specs.Prelude.{◌≡◌, ◌<◌, []};
 
-use covbook::Op;
-use covnamed::Book;
+use covbook::{Book, Op};
 use covnews::{HistorySeed, Live, Name, News, Publisher};
+use covreport::Table;
+use covstore::Store;
 use linked_list_allocator::LocalHeap;
 use std::alloc::{AllocGlobal, Allocator, Global};
 use std::marker::Brand;
@@ -39,10 +40,10 @@ fn reader<L: Name, A: Allocator>(rt: &impl Abort, publisher: &mut Publisher<L, A
 }
 
 /// Performs one step of the book, notes its entry and publishes it.
-fn step<L: Name, R: Wait + Abort>(
+fn step<L: Name, R: Wait + Abort, T: Table<Global>>(
     rt: &R,
     alloc: Global,
-    book: &mut Book,
+    book: &mut Book<Global, T>,
     publisher: &mut Publisher<L>,
 ) -> News<L>
     requires { publisher.old.noted ≡ book.old.entries }
@@ -75,11 +76,11 @@ fn check_no_place<L: Name, A: Allocator>(rt: &impl Abort, publisher: &mut Publis
 
 /// Checks three readers. `early` reports published entries without learning news. `late` begins with what was published before it
 /// was made. `asleep` first reads after the close, and reports no entries until it learns news.
-fn follow<L: Name, R: Wait + Abort>(rt: &R, alloc: Global, seed: HistorySeed)
+fn follow<L: Name, R: Wait + Abort, T: Table<Global>>(rt: &R, alloc: Global, seed: HistorySeed)
     requires { seed.book ≡ L.book }
 {
     let mut publisher = opened::<L, Global>(rt, alloc, seed, 3);
-    let mut book = Book::new(alloc);
+    let mut book: Book<Global, T> = Book::new(alloc);
     let mut early = reader(rt, &mut publisher);
     let mut asleep = reader(rt, &mut publisher);
     check_upto(rt, &mut early, 0);
@@ -98,7 +99,7 @@ fn follow<L: Name, R: Wait + Abort>(rt: &R, alloc: Global, seed: HistorySeed)
 
 #[test]
 fn readers_follow(rt: HostRuntime) -> Result<(), Fail> {
-    follow::<Brand, _>(&rt, rt.alloc(), HistorySeed::new());
+    follow::<Brand, _, Store>(&rt, rt.alloc(), HistorySeed::new());
     Ok(())
 }
 
@@ -143,14 +144,14 @@ fn publishing_takes_no_memory(rt: HostRuntime) -> Result<(), Fail> {
 }
 
 /// Performs a hundred steps of a new book, publishes each, and closes the publisher.
-fn step_often<L: Name, R: Wait + Abort>(
+fn step_often<L: Name, R: Wait + Abort, T: Table<Global>>(
     rt: &R,
     alloc: Global,
     mut publisher: Publisher<L>,
 ) -> News<L>
     requires { publisher.noted ≡ [] }
 {
-    let mut book = Book::new(alloc);
+    let mut book: Book<Global, T> = Book::new(alloc);
     for _ in 0..100 {
         step(rt, alloc, &mut book, &mut publisher);
     }
@@ -182,7 +183,7 @@ fn read_meanwhile<L: Name + Send + Sync, R: Threads + Wait + Abort + Sync>(
         rt,
         move || -> News<L>
             requires { publisher.noted ≡ [] }
-        { step_often(rt, alloc, publisher) },
+        { step_often::<L, R, Store>(rt, alloc, publisher) },
         move || read_often(rt, live),
     );
     live.learn(&news);

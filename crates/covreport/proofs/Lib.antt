@@ -9,3 +9,4 @@ pub mod Texts
 pub mod Room
 pub mod Rates
 pub mod ChosenFiles
+pub mod Listed

@@ -1,6 +1,7 @@
 //! The choice of the files that a printed text includes.
 
 use crate::patterns::Patterns;
+use covdata::Memory;
 use std::alloc::{Allocator, Global};
 
 /// Which source files are chosen (lcov(1), `--extract` and `--remove`).
@@ -37,6 +38,26 @@ impl<A: Allocator> Choice<A> {
                 (includes.get().is_empty() || includes.any_matches(file))
                     && !excludes.any_matches(file)
             }
+        }
+    }
+}
+
+impl<A: Allocator + Copy> Choice<A> {
+    ghost use Rattle.std.specs.Prelude.{◌≡◌, IfOk};
+    ghost use Rattle.covreport.specs.ChoiceView.{choice_data};
+
+    /// Copies the choice.
+    pub fn copy(&self, alloc: A) -> Result<Choice<A>, Memory>
+        ensures { IfOk result (λ copy. choice_data copy ≡ choice_data self.now) }
+    {
+        match self {
+            Choice::All => Ok(Choice::All),
+            Choice::Extract(patterns) => Ok(Choice::Extract(patterns.copy(alloc)?)),
+            Choice::Remove(patterns) => Ok(Choice::Remove(patterns.copy(alloc)?)),
+            Choice::Filter { includes, excludes } => Ok(Choice::Filter {
+                includes: includes.copy(alloc)?,
+                excludes: excludes.copy(alloc)?,
+            }),
         }
     }
 }

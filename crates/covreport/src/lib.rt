@@ -11,7 +11,11 @@
 //! An example, proved and run in `covuses`: the merged tracefile of the files that match a pattern, and the summary of all files.
 //!
 //! ```text
-//! pub fn reports(alloc: Global, store: &Store, pattern: &[u8]) -> Result<(Bytes, Bytes), PatternFault> {
+//! pub fn reports<T: Table<Global>>(
+//!     alloc: Global,
+//!     store: &T,
+//!     pattern: &[u8],
+//! ) -> Result<(Bytes, Bytes), PatternFault> {
 //!     let mut patterns = Patterns::new(alloc);
 //!     patterns.add(alloc, pattern)?;
 //!     let tracefile = trace_text(alloc, store, &Choice::Extract(patterns))?;
@@ -22,6 +26,7 @@
 #![tactic(auto)]
 
 mod choice;
+mod files;
 pub mod laws;
 mod noted;
 mod pattern;
@@ -33,11 +38,12 @@ mod table;
 mod tracefile;
 
 pub use choice::Choice;
+pub use files::list_files;
 pub use noted::Noted;
 pub use pattern::matches;
 pub use patterns::{MAX_PATTERN_BYTES, MAX_PATTERNS, PatternFault, Patterns};
 pub use printer::Printer;
 pub use printing::Printing;
-pub use summary::{chosen_totals, summary_text, tenths, without_others};
+pub use summary::{chosen_totals, put_tenths, summary_text, tenths, without_others};
 pub use table::Table;
 pub use tracefile::{PrintedFunction, most_functions_in, put_sections, trace_text};

@@ -13,7 +13,6 @@ use crate::choice::Choice;
 use crate::table::Table;
 use covdata::{Bytes, Memory};
 use covtable::{TableFiles, Totals};
-use itoa::Buffer;
 use std::alloc::Allocator;
 
 /// The totals of all tests in the chosen files. Never allocates.
@@ -166,9 +165,9 @@ fn put_parts<A: Allocator>(
     ensures { OnOk result
         (text.new ≡ text.old ++ (decimal hit ++ (codes " of " ++ (decimal found ++ (codes " " ++ (noun_of words.now.one.now words.now.many.now found ++ codes ")")))))) }
 {
-    put_number(hit, text)?;
+    text.append_number(hit)?;
     text.append(b" of ")?;
-    put_number(found, text)?;
+    text.append_number(found)?;
     text.append(b" ")?;
     text.append(noun(words, found))?;
     text.append(b")")
@@ -181,19 +180,11 @@ fn noun<'a>(words: &Words<'a>, found: u64) -> &'a [u8]
     if found == 1 { words.one } else { words.many }
 }
 
-/// Appends tenths of a percent as a percentage with one decimal place.
-fn put_tenths<A: Allocator>(tenths: u32, text: &mut Bytes<A>) -> Result<(), Memory>
+/// Appends tenths of a percent as a percentage with one decimal place, without a percent sign.
+pub fn put_tenths<A: Allocator>(tenths: u32, text: &mut Bytes<A>) -> Result<(), Memory>
     ensures { OnOk result (text.new ≡ text.old ++ (decimal (tenths / 10) ++ (codes "." ++ decimal (tenths % 10)))) }
 {
-    put_number(u64::from(tenths / 10), text)?;
+    text.append_number(u64::from(tenths / 10))?;
     text.append(b".")?;
-    put_number(u64::from(tenths % 10), text)
-}
-
-/// Appends a number in decimal.
-fn put_number<A: Allocator>(number: u64, text: &mut Bytes<A>) -> Result<(), Memory>
-    ensures { OnOk result (text.new ≡ text.old ++ decimal number) }
-{
-    let mut digits = Buffer::new();
-    text.append(digits.format(number).as_bytes())
+    text.append_number(u64::from(tenths % 10))
 }

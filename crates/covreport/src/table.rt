@@ -8,27 +8,29 @@ use crate::printer::Printer;
 use crate::tracefile::PrintedFunction;
 use covdata::{Memory, Submission};
 use covpacked::PackedSubmission;
-use covtable::{Refuse, Totals};
+use covtable::{FileTotals, Refuse, Totals};
 use std::alloc::Allocator;
 
 /// A store that represents a table of counts. Contracts see the store's sections, and how many submissions the store has.
 ///
 /// A submission is added in two steps. `prepare` compares checksums, allocates all memory and returns a plan. `commit` adds the
-/// submission and never allocates. Renaming a test also takes two steps, `prepare_rename` and `commit_rename`. Dropping a test
-/// takes one step, `drop_test`, which never allocates.
+/// submission and never allocates. Renaming a test also takes two steps, `prepare_rename` and `commit_rename`. So does
+/// dropping a test, by `after_drop` and `drop_leaving`, which never allocate.
 pub trait Table<A: Allocator>: Drop {
-    ghost use Rattle.std.specs.Prelude.{◌≡◌, ◌≢◌, ◌<◌, ◌≤◌, ℕ, List, ◌++◌, [], ◌∷◌, IfOk, IfErr, None, OnErr, filter, vec_capacity};
+    ghost use Rattle.std.specs.Prelude.{◌≡◌, ◌≢◌, ◌<◌, ◌≤◌, ℕ, List, ◌++◌, [], ◌∷◌, IfOk, IfErr, None, OnErr, filter, map, vec_capacity};
     ghost use Rattle.std.specs.Str.{bytes_eq};
     ghost use Rattle.std.specs.List.{list_any};
     ghost use Rattle.covdata.specs.Row.{SubmissionData, rows_of};
     ghost use Rattle.covtable.specs.declared.totals.Totals.{Totals};
     ghost use Rattle.covtable.specs.Content.{content_at};
+    ghost use Rattle.covtable.specs.Files.{files_with_totals};
     ghost use Rattle.covtable.specs.Refuse.{IsRefusedAt};
     ghost use Rattle.covtable.specs.RefuseView.{refuse_data};
     ghost use Rattle.covtable.specs.Renamed.{renamed};
     ghost use Rattle.covtable.specs.Shown.{SameContent, ShownData, StandsFor, max_members};
     ghost use Rattle.covtable.specs.Table.{Table as Rows, all_rows, clash_at};
     ghost use Rattle.covtable.specs.Totals.{AreTotals, totals_of};
+    ghost use Rattle.covtable.specs.ValuesView.{file_totals_data};
     ghost use Rattle.covtable.specs.Without.{sections_of_test, without_test};
     ghost use Rattle.covreport.specs.Choice.{is_chosen};
     ghost use Rattle.covreport.specs.ChoiceView.{choice_data};
@@ -137,22 +139,32 @@ pub trait Table<A: Allocator>: Drop {
         ensures value { result ≡ list_any (λ s. bytes_eq s.key.test test.now) (shown self.now).sections }
         ensures rows { (table : Rows) → StandsFor (shown self.now) table → result ≡ list_any (λ row. bytes_eq row.test test.now) (all_rows table) };
 
-    /// Returns the number of sections of the test, and the totals that the store would have after `drop_test`. Never allocates.
+    /// Returns the number of sections of the test, and the totals that the store would have without the test. Never allocates.
     fn after_drop(&self, test: &[u8]) -> (u64, Totals)
         ensures sections { (table : Rows) → StandsFor (shown self.now) table → result.0 ≡ sections_of_test test.now table }
         ensures totals { (table : Rows) → StandsFor (shown self.now) table → result.1 ≡ totals_of (content_at (without_test test.now table)) }
         ensures bounds { AreTotals result.1 };
 
-    /// Drops a test with its points. Other tests keep their points. Returns the number of sections that the dropped test had. Never
+    /// Drops a test with its points. Other tests keep their points. `totals` must be those that `after_drop` returns. Never
     /// allocates.
-    fn drop_test(&mut self, test: &[u8]) -> u64
-        ensures sections { (table : Rows) → StandsFor (shown self.old) table → result ≡ sections_of_test test.now table }
-        ensures stands { (table : Rows) → StandsFor (shown self.old) table → StandsFor (shown self.new) (without_test test.now table) };
+    fn drop_leaving(&mut self, test: &[u8], totals: Totals)
+        requires { (table : Rows) → StandsFor (shown self.old) table → totals ≡ totals_of (content_at (without_test test.now table)) }
+        ensures { (table : Rows) → StandsFor (shown self.old) table → StandsFor (shown self.new) (without_test test.now table) };
 
     /// The totals over all files and tests. Never allocates.
     fn totals(&self) -> Totals
         ensures value { result ≡ totals_of (shown self.now).sections }
         ensures bounds { AreTotals result };
+
+    /// Returns the files that have points, ascending by path, each with its totals over all tests: what `list_files` gives of the
+    /// files. Allocates nothing if no file has points.
+    ///
+    /// # Errors
+    ///
+    /// `Memory` if an allocation failed.
+    fn files<'s>(&'s self, alloc: A) -> Result<Vec<FileTotals<'s>, A>, Memory>
+        ensures files { IfOk result (λ files. map file_totals_data files.items ≡ files_with_totals (shown self.now).sections) }
+        ensures some { OnErr result (files_with_totals (shown self.now).sections ≢ []) };
 
     /// The totals of all tests in the chosen files: what `without_others` leaves of the totals. Never allocates.
     fn chosen_totals(&self, choice: &Choice<A>) -> Totals

@@ -7,7 +7,6 @@ ghost use Rattle.covreport.specs.Put.{HasPut};
 ghost use Rattle.covreport.specs.Room.{most_functions};
 
 mod branches;
-mod front;
 mod functions;
 mod grown;
 mod lines;

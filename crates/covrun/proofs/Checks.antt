@@ -32,8 +32,8 @@ use Rattle.covrun.specs.Check.{OutcomeData, Unread, Refused, Held, IsOutcome, Is
 use Rattle.covrun.specs.Checked.{AnswersText, AreExamined, IsExamined, IsReportOf, IsTextExamined, Reports, ReportsFile, Says, TellsEach, TellsExamined, TellsOne, verdict_of, worse, worst_of}
 use Rattle.covrun.specs.Files.{IsUnread}
 use Rattle.covrun.specs.Folder.{FolderData, IsTextOf}
-use Rattle.covrun.specs.declared.files.FileFault.{FileFault}
-use Rattle.covrun.specs.declared.files.FileFault.TheVariants as files
+use Rattle.covstream.specs.declared.fault.BlockFault.{BlockFault}
+use Rattle.covstream.specs.declared.fault.BlockFault.TheVariants as files
 use Rattle.covrun.specs.Streams.{SinksData, Complains, IsSilent, Withholds}
 use Rattle.covrun.specs.declared.check_verdict.CheckVerdict.{CheckVerdict}
 use Rattle.covrun.specs.declared.check_verdict.CheckVerdict.TheVariants as verdicts
@@ -138,8 +138,8 @@ examined_text folder format strictness file shown text is short fits result exam
     examined_as folder format strictness file text short fits result (subst (λ (name : List ℕ). IsTextExamined format strictness name text result) is examined)
 
 -- a file that isn't read, although memory doesn't run out, may fail to be read
-pub may_fail_of : (folder : FolderData) (name : List ℕ) (fault : FileFault) → (fault ≡ files.Memory → ⊥) → IsUnread folder name fault → folder.MayFail name
-may_fail_of folder name (files.Unreadable file) other unread = unread.1
+pub may_fail_of : (folder : FolderData) (name : List ℕ) (fault : BlockFault) → (fault ≡ files.Memory → ⊥) → IsUnread folder name fault → folder.MayFail name
+may_fail_of folder name files.Unreadable other unread = unread
 may_fail_of folder name files.Memory other unread = absurd (other refl)
 
 -- a file that can't be read is reported as such

@@ -11,11 +11,12 @@ use Rattle.covsession.specs.declared.session.fault.SessionFault.TheVariants as f
 use Rattle.covbook.specs.Gather.{LogData}
 use Rattle.covbook.specs.Op.{OpData, SubmitOp, DropTestOp, RenameOp, ReportOp, ExtractOp, RemoveOp, SummaryOp, TextAnswer, EntryData}
 use Rattle.covtable.specs.Content.{SectionData, content_at}
+use Rattle.covtable.specs.Files.{FileTotalsData, files_with_totals}
 use Rattle.covtable.specs.Table.{Table}
 use Rattle.covlimit.specs.Limits.{LimitsData}
 use Rattle.covlist.specs.Chosen.{chosen_files, totals_of_chosen}
 use Rattle.covlist.specs.Shown.{shown_name}
-use Rattle.covreport.specs.Choice.{ChoiceData}
+use Rattle.covreport.specs.Choice.{ChoiceData, AllFiles}
 use Rattle.covreport.specs.Report.{report_text}
 use Rattle.covbook.specs.Step.{answer_of, next_entry, ops_in, table_after, table_from, table_of}
 use Rattle.covbook.specs.Texts.{IsText}
@@ -47,7 +48,7 @@ use Rattle.covrun.specs.declared.ending.Failure.{Failure}
 use Rattle.covrun.specs.declared.ending.Failure.TheVariants as failures
 use Rattle.covrun.specs.Ending.{EndingData, Prints, FallsShort, Unreadable, Stopped, Refuses, IsUnclean, strict_lines, of_collect, of_collected, complaints, refusal_line, ran_out, shortfall_status, text_in, text_at, last_text, asked_shortfalls, asked_text, list_text, unless_any, with_shortfalls}
 use Rattle.covlimit.specs.Limits.{has_limit}
-use Rattle.covrun.specs.Work.{QuestionData, Answer, ChosenReport, ChosenSummary, LimitedTotals, ChosenList, last_of, choice_of, chosen_or_all, asked_of, limits_of, summary_asked, WorkData, TaskData, Serves, Collects, Checks, task_of}
+use Rattle.covrun.specs.Work.{QuestionData, Answer, ChosenReport, ChosenTotals, ChosenList, last_of, choice_of, asked_of, limits_of, summary_asked, words_asked, WorkData, TaskData, Serves, Collects, Checks, task_of}
 use Rattle.covcommand.specs.declared.asked.TextSize.{TextSize}
 use Rattle.covrun.specs.declared.work.CheckedFormat.{CheckedFormat}
 use Rattle.covrun.proofs.Reading.{HaveTexts, HaveTextsFor, collected_in}
@@ -169,11 +170,12 @@ pub list_is_asked : (entries : List EntryData) (form : TotalsForm) (choice : Cho
 list_is_asked entries form choice sections are =
     ap (λ (s : List SectionData). list_text form (chosen_files choice s) (totals_of_chosen choice s)) (sections_stay entries SummaryOp tt sections are)
 
--- the lines about patterns are those for the table after the last operation
+-- the lines about patterns are those for the files of the table after the last operation
 pub patterns_are_asked : (entries : List EntryData) (asks : QuestionData) → IsText (last_of asks) → (sections : List SectionData) → sections ≡ content_at (table_of (ops_in entries))
-    → flat_map (unmatched_line sections) (asked_patterns asks) ≡ flat_map (unmatched_line (content_at (table_of (ops_in (entries ++ next_entry entries 0 (last_of asks) ∷ []))))) (asked_patterns asks)
-patterns_are_asked entries asks is_text sections are =
-    ap (λ (s : List SectionData). flat_map (unmatched_line s) (asked_patterns asks)) (sections_stay entries (last_of asks) is_text sections are)
+    → (files : List FileTotalsData) → files ≡ files_with_totals sections
+    → flat_map (unmatched_line files) (asked_patterns asks) ≡ flat_map (unmatched_line (files_with_totals (content_at (table_of (ops_in (entries ++ next_entry entries 0 (last_of asks) ∷ [])))))) (asked_patterns asks)
+patterns_are_asked entries asks is_text sections are files listed =
+    ap (λ (fs : List FileTotalsData). flat_map (unmatched_line fs) (asked_patterns asks)) (listed ∙ ap files_with_totals (sections_stay entries (last_of asks) is_text sections are))
 
 -- a text that is this one is the other that equals it
 pub text_then : {E : Type 0} (result : Result (List ℕ) E) (text other : List ℕ) → IfOk result (λ t. t ≡ text) → text ≡ other → IfOk result (λ t. t ≡ other)
@@ -267,17 +269,16 @@ report_or_chosen : (choice : Option ChoiceData) → IsText (last_of (asked_of Re
 report_or_chosen None = tt
 report_or_chosen (Some choice) = tt
 
-summary_or_chosen : (choice : Option ChoiceData) → IsText (last_of (asked_of SummaryOp ChosenSummary choice))
-summary_or_chosen None = tt
-summary_or_chosen (Some choice) = tt
+all_are_text : (limits : LimitsData) (has : Bool) → IsText (last_of (if has then ChosenTotals forms.Words AllFiles limits else Answer SummaryOp))
+all_are_text limits true = tt
+all_are_text limits false = tt
 
-words_are_text : (limits : LimitsData) (choice : Option ChoiceData) → (has : Bool)
-    → IsText (last_of (if has then LimitedTotals forms.Words (chosen_or_all choice) limits else asked_of SummaryOp ChosenSummary choice))
-words_are_text limits choice true = tt
-words_are_text limits choice false = summary_or_chosen choice
+words_are_text : (limits : LimitsData) (choice : Option ChoiceData) → IsText (last_of (words_asked limits choice))
+words_are_text limits None = all_are_text limits (has_limit limits)
+words_are_text limits (Some choice) = tt
 
 totals_are_text : (form : TotalsForm) (limits : LimitsData) (choice : Option ChoiceData) → IsText (last_of (summary_asked form limits choice))
-totals_are_text forms.Words limits choice = words_are_text limits choice (has_limit limits)
+totals_are_text forms.Words limits choice = words_are_text limits choice
 totals_are_text forms.Json limits choice = tt
 
 asks_text_of : (command : Command) (strictness : Strictness) (size : TextSize) → AsksText (task_of command strictness size)
@@ -383,11 +384,11 @@ unwritten_with name (b ∷ lines) text status old new unwritten = inr unwritten
 
 -- the file couldn't be written, and these words were said
 pub answer_unwritten : (name lines text words : List ℕ) (status : ℕ) (old new : WorldData) → words ≡ shown_name name ++ said (codes ": can't write") → status ≡ 1
-    → (new.files.finished ≡ old.files.finished) × (new.files.begun ≡ old.files.begun) × (new.files.failed ≡ suc old.files.failed)
+    → (new.files.finished ≡ old.files.finished) × (new.files.names ≡ old.files.names) × (new.files.begun ≡ old.files.begun) × (new.files.failed ≡ suc old.files.failed)
     → Withholds old.sinks new.sinks → Complains words old.sinks new.sinks → IsEndingWritten name (with_shortfalls lines text) status old new
-answer_unwritten name lines text words status old new are is (finished, begun, counted) withheld told =
+answer_unwritten name lines text words status old new are is (finished, names, begun, counted) withheld told =
     unwritten_with name lines text status old new
-    (is, finished, begun, counted, withheld, subst (λ (ws : List ℕ). Complains ws old.sinks new.sinks) are told)
+    (is, finished, names, begun, counted, withheld, subst (λ (ws : List ℕ). Complains ws old.sinks new.sinks) are told)
 
 -- a failure of the work is reported
 pub failure_told : (folder : FolderData) (work : WorkData) (file : Option (List ℕ)) (failure : Failure) (status : ℕ) (old new : WorldData) → WorkEnds folder file work (failure_data failure)

@@ -37,7 +37,7 @@ use Rattle.covrun.specs.Work.{WorkData, TaskData, Serves, Collects, Checks, last
 use Rattle.covrun.specs.Check.{IsCheck}
 use Rattle.covlist.specs.Shown.{shown_name}
 use Rattle.covrun.specs.Folder.{FolderData, AreTextsOf}
-use Rattle.covrun.specs.OutputFiles.{OutputFilesData, Finishes, file_of}
+use Rattle.covrun.specs.OutputFiles.{AddsName, OutputFilesData, Finishes, file_of}
 use Rattle.covrun.specs.Streams.{SinksData, Complains, Withholds, Delivers, DeliversAndComplains}
 use Rattle.covrun.specs.World.{WorldData, ChangesSinksAlone}
 
@@ -130,12 +130,14 @@ IsEndingPrinted ending status old new = (status ≡ status_of ending) × Withhol
 -- the text went into a file of this name, which was finished
 abbrev pub IsWritten : (name text : List ℕ) → OutputFilesData → OutputFilesData → Type 0
 IsWritten name text files after =
-    Finishes name text files.finished after.finished × (after.begun ≡ files.begun) × (after.failed ≡ files.failed)
+    Finishes name text files.finished after.finished × AddsName name files.names after.names × (after.begun ≡ files.begun)
+    × (after.failed ≡ files.failed)
 
 -- the file of this name couldn't be written. No file was finished, and the failure is reported
 abbrev pub IsUnwritten : (name : List ℕ) → (status : ℕ) → WorldData → WorldData → Type 0
 IsUnwritten name status old new =
-    (status ≡ 1) × (new.files.finished ≡ old.files.finished) × (new.files.begun ≡ old.files.begun) × (new.files.failed ≡ suc old.files.failed)
+    (status ≡ 1) × (new.files.finished ≡ old.files.finished) × (new.files.names ≡ old.files.names) × (new.files.begun ≡ old.files.begun)
+    × (new.files.failed ≡ suc old.files.failed)
     × Withholds old.sinks new.sinks
     × Complains (shown_name name ++ said (codes ": can't write")) old.sinks new.sinks
 

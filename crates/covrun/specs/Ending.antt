@@ -31,7 +31,7 @@ use Rattle.covrun.specs.declared.text_fault.TextFault.TheVariants.{Faulty, Uncle
 use Rattle.covrun.specs.Strict.{unmatched_lines}
 use Rattle.covrun.specs.Naming.{told_lines, told_name}
 use Rattle.covrun.specs.declared.naming.Naming.{Naming}
-use Rattle.covrun.specs.Work.{QuestionData, Answer, ChosenReport, ChosenSummary, LimitedTotals, ChosenList}
+use Rattle.covrun.specs.Work.{QuestionData, Answer, ChosenReport, ChosenTotals, ChosenList}
 
 -- how a call ends. `Prints`: it prints the text that was asked for, help or the version. `FallsShort`: it prints the text that
 -- was asked for, and these lines say which rates are below their limits. `BadLine`: the words don't fit the command line.
@@ -158,13 +158,12 @@ abbrev pub list_text : TotalsForm → List FileTotalsData → Totals → List �
 list_text forms.Words files totals = list_table_of files totals
 list_text forms.Json files totals = list_json_of files totals
 
--- the text that is asked for: the answer of the last entry; or the report, the summary, the totals or the list of the chosen files
+-- the text that is asked for: the answer of the last entry; or the report, the totals or the list of the chosen files
 -- in the table after the entries
 abbrev pub asked_text : QuestionData → List EntryData → List ℕ
 asked_text (Answer op) entries = last_text entries
 asked_text (ChosenReport choice) entries = report_text choice (content_at (table_of (ops_in entries)))
-asked_text (ChosenSummary choice) entries = summary_of (totals_of_chosen choice (content_at (table_of (ops_in entries))))
-asked_text (LimitedTotals form choice limits) entries = totals_text form (totals_of_chosen choice (content_at (table_of (ops_in entries))))
+asked_text (ChosenTotals form choice limits) entries = totals_text form (totals_of_chosen choice (content_at (table_of (ops_in entries))))
 asked_text (ChosenList form choice) entries =
     list_text form (chosen_files choice (content_at (table_of (ops_in entries)))) (totals_of_chosen choice (content_at (table_of (ops_in entries))))
 
@@ -173,8 +172,7 @@ asked_text (ChosenList form choice) entries =
 abbrev pub asked_shortfalls : QuestionData → List EntryData → List ℕ
 asked_shortfalls (Answer op) entries = []
 asked_shortfalls (ChosenReport choice) entries = []
-asked_shortfalls (ChosenSummary choice) entries = []
-asked_shortfalls (LimitedTotals form choice limits) entries = shortfalls limits (totals_of_chosen choice (content_at (table_of (ops_in entries))))
+asked_shortfalls (ChosenTotals form choice limits) entries = shortfalls limits (totals_of_chosen choice (content_at (table_of (ops_in entries))))
 asked_shortfalls (ChosenList form choice) entries = []
 
 -- the text is printed. If there are lines, they say which rates are below their limits

@@ -21,19 +21,19 @@ use Rattle.covrun.specs.Strict.{IsOutcomeFor, is_clean}
 use Rattle.covrun.specs.Work.{input_of}
 use Rattle.covrun.specs.declared.text_fault.TextFault.{TextFault}
 use Rattle.covrun.specs.declared.text_fault.TextFault.TheVariants.{Faulty, Unclean}
-use Rattle.covrun.specs.declared.files.FileFault.{FileFault}
 use Rattle.covrun.specs.declared.work.FileFormat.{FileFormat}
 use Rattle.covrun.specs.declared.work.FileFormat.TheVariants.{Tracefile, LargeTracefile, GcovOutput}
-use Rattle.covrun.specs.declared.files.FileFault.TheVariants.{Unreadable, Memory}
 use Rattle.covstream.specs.Blocks.{HasReadAtMost}
+use Rattle.covstream.specs.declared.fault.BlockFault.{BlockFault}
+use Rattle.covstream.specs.declared.fault.BlockFault.TheVariants.{Unreadable, Memory}
 
 -- all bytes that were left were read, or exactly one byte more than a text may have
 abbrev pub HasRead : Option (List ℕ) → Option (List ℕ) → List ℕ → Type 0
 HasRead left left_after text = HasReadAtMost (suc max_bytes) left left_after text
 
 -- the file of this name can't be read, or memory ran out
-abbrev pub IsUnread : FolderData → List ℕ → FileFault → Type 0
-IsUnread folder name (Unreadable file) = (file.now ≡ name) × folder.MayFail name
+abbrev pub IsUnread : FolderData → List ℕ → BlockFault → Type 0
+IsUnread folder name Unreadable = folder.MayFail name
 IsUnread folder name Memory = Unit {0}
 
 -- a file may have this outcome: that of the input that is made of some text of the file. `held` has the file's bytes, if they are

@@ -4,7 +4,7 @@ use Rattle.covdata.specs.declared.version.LcovVersion.TheVariants as versions
 use Rattle.covcommand.specs.declared.asked.Strictness.{Strictness}
 use Rattle.covcommand.specs.declared.asked.Strictness.TheVariants.{Lenient, Strict}
 use Rattle.covlist.specs.Shown.{shown_lines, shown_name}
-use Rattle.covrun.specs.Work.{QuestionData, Answer, ChosenReport, ChosenSummary, LimitedTotals, ChosenList, WorkData}
+use Rattle.covrun.specs.Work.{QuestionData, Answer, ChosenReport, ChosenTotals, ChosenList, WorkData}
 use Rattle.covrun.specs.declared.naming.Naming.{Naming}
 use Rattle.covrun.specs.declared.naming.Naming.TheVariants.{Plain, Shown}
 use Rattle.covrun.specs.declared.work.FileFormat.{FileFormat}
@@ -24,8 +24,7 @@ told_lines Shown lines = shown_lines lines
 abbrev pub naming_asked : QuestionData → Naming
 naming_asked (Answer op) = Plain
 naming_asked (ChosenReport choice) = Shown
-naming_asked (ChosenSummary choice) = Shown
-naming_asked (LimitedTotals form choice limits) = Shown
+naming_asked (ChosenTotals form choice limits) = Shown
 naming_asked (ChosenList form choice) = Shown
 
 -- tracefiles of version 1, not read in pieces, and gcov's text are read without an option

@@ -4,21 +4,32 @@ use Rattle.std.specs.Str.{bytes_eq}
 use Rattle.covrun.specs.declared.output_folder.OutputFault.{OutputFault}
 use Rattle.covrun.specs.declared.output_folder.OutputFault.TheVariants.{Failed, Memory}
 
--- the files that were finished so far, in order, each with its name and its text, if they are known; the name of the file that is
--- begun, and neither finished nor abandoned; and how many files couldn't be written
+-- the files that were finished so far, in order, each with its name and its text, if they are known; their names, which are known
+-- even if their texts aren't; the name of the file that is begun, and neither finished nor abandoned; and how many files couldn't be
+-- written
 pub record OutputFilesData : Type 0 where
   pub finished : Option (List (List ℕ × List ℕ))
+  pub names : List (List ℕ)
   pub begun : Option (List ℕ)
   pub failed : ℕ
 
-abbrev pub output_files : Option (List (List ℕ × List ℕ)) → Option (List ℕ) → ℕ → OutputFilesData
-output_files finished begun failed = record { finished = finished; begun = begun; failed = failed }
+abbrev pub output_files : Option (List (List ℕ × List ℕ)) → List (List ℕ) → Option (List ℕ) → ℕ → OutputFilesData
+output_files finished names begun failed = record { finished = finished; names = names; begun = begun; failed = failed }
 
 -- one more file was finished: it has this name and this text
 abbrev pub Finishes : (name text : List ℕ) → (finished finished_after : Option (List (List ℕ × List ℕ))) → Type 0
 Finishes name text None after = Unit {0}
 Finishes name text (Some files) None = ⊥
 Finishes name text (Some files) (Some after) = after ≡ files ++ (name, text) ∷ []
+
+-- one more file was finished, which has this name
+abbrev pub AddsName : (name : List ℕ) → (names names_after : List (List ℕ)) → Type 0
+AddsName name names after = after ≡ names ++ name ∷ []
+
+-- a file can't be begun only for this reason, unless memory ran out
+abbrev pub RefusedOnlyIf : (MayRefuse : Type 0) → OutputFault → Type 0
+RefusedOnlyIf MayRefuse Failed = MayRefuse
+RefusedOnlyIf MayRefuse Memory = Unit {0}
 
 -- a file that was just begun has no bytes. Nothing is said if the finished files aren't known
 abbrev pub IsEmptyIfKnown : (finished : Option (List (List ℕ × List ℕ))) → (written : Option (List ℕ)) → Type 0

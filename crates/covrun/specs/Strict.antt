@@ -22,8 +22,8 @@ use Rattle.covreport.specs.Choice.{ChoiceData, AllFiles, Extracted, Removed, Fil
 use Rattle.covreport.specs.Pattern.{matches}
 use Rattle.covsession.specs.Session.{said}
 use Rattle.covtable.specs.Content.{SectionData}
-use Rattle.covtable.specs.Files.{files_with_totals}
-use Rattle.covrun.specs.Work.{QuestionData, Answer, ChosenReport, ChosenSummary, LimitedTotals, ChosenList}
+use Rattle.covtable.specs.Files.{FileTotalsData, files_with_totals}
+use Rattle.covrun.specs.Work.{QuestionData, Answer, ChosenReport, ChosenTotals, ChosenList}
 use Rattle.covrun.specs.declared.text_fault.TextFault.{TextFault}
 use Rattle.covrun.specs.declared.text_fault.TextFault.TheVariants.{Faulty, Unclean}
 
@@ -96,19 +96,18 @@ patterns_of_choice (Filtered includes excludes) = includes ++ excludes
 abbrev pub asked_patterns : QuestionData → List (List ℕ)
 asked_patterns (Answer op) = patterns_of_op op
 asked_patterns (ChosenReport choice) = patterns_of_choice choice
-asked_patterns (ChosenSummary choice) = patterns_of_choice choice
-asked_patterns (LimitedTotals form choice limits) = patterns_of_choice choice
+asked_patterns (ChosenTotals form choice limits) = patterns_of_choice choice
 asked_patterns (ChosenList form choice) = patterns_of_choice choice
 
--- the pattern matches the path of one of the files that the sections have counts of
-abbrev pub is_matched : List SectionData → (pattern : List ℕ) → Bool
-is_matched sections pattern = list_any (λ f. matches pattern f.path) (files_with_totals sections)
+-- the pattern matches the path of one of these files
+abbrev pub is_matched : List FileTotalsData → (pattern : List ℕ) → Bool
+is_matched files pattern = list_any (λ f. matches pattern f.path) files
 
 -- the line about a pattern, with its control bytes in hexadecimal digits: none if it matches a file
-abbrev pub unmatched_line : List SectionData → (pattern : List ℕ) → List ℕ
-unmatched_line sections pattern = if is_matched sections pattern then [] else shown_name pattern ++ said (codes ": matches no file")
+abbrev pub unmatched_line : List FileTotalsData → (pattern : List ℕ) → List ℕ
+unmatched_line files pattern = if is_matched files pattern then [] else shown_name pattern ++ said (codes ": matches no file")
 
--- the lines about patterns that match no file, for a strict call
+-- the lines about patterns that match none of the files that the sections have counts of, for a strict call
 abbrev pub unmatched_lines : Strictness → QuestionData → List SectionData → List ℕ
 unmatched_lines Lenient asks sections = []
-unmatched_lines Strict asks sections = flat_map (unmatched_line sections) (asked_patterns asks)
+unmatched_lines Strict asks sections = flat_map (unmatched_line (files_with_totals sections)) (asked_patterns asks)

@@ -2,7 +2,7 @@
 use Rattle.covbook.specs.View.{op_data}
 use Rattle.covreport.specs.ChoiceView.{choice_data}
 use Rattle.covlimit.specs.LimitsView.{limits_data}
-use Rattle.covrun.specs.Work.{QuestionData, Answer, ChosenReport, ChosenSummary, LimitedTotals, ChosenList, WorkData, TaskData, Serves, Collects, Checks}
+use Rattle.covrun.specs.Work.{QuestionData, Answer, ChosenReport, ChosenTotals, ChosenList, WorkData, TaskData, Serves, Collects, Checks}
 use Rattle.covrun.specs.Ending.{EndingData, BadWords, Unreadable, Stopped, Refuses, IsUnclean, with_shortfalls}
 use Rattle.covrun.specs.declared.question.Question.{Question}
 use Rattle.covrun.specs.declared.question.Question.TheVariants as questions
@@ -16,8 +16,7 @@ use Rattle.covrun.specs.declared.ending.Failure.TheVariants as failures
 abbrev pub question_data : Question → QuestionData
 question_data (questions.Answer op) = Answer (op_data op)
 question_data (questions.ChosenReport choice) = ChosenReport (choice_data choice)
-question_data (questions.ChosenSummary choice) = ChosenSummary (choice_data choice)
-question_data (questions.LimitedTotals form choice limits) = LimitedTotals form (choice_data choice) (limits_data limits)
+question_data (questions.ChosenTotals form choice limits) = ChosenTotals form (choice_data choice) (limits_data limits)
 question_data (questions.ChosenList form choice) = ChosenList form (choice_data choice)
 
 abbrev pub work_data : Work → WorkData
@@ -28,7 +27,7 @@ task_data tasks.Session = Serves
 task_data (tasks.Collect work) = Collects (work_data work)
 task_data (tasks.Check options files) = Checks options.format options.strictness options.jobs files
 
-abbrev pub ready_data : ReadyAnswer → EndingData
+abbrev pub ready_data : {T Plan Renaming : Type 0} → ReadyAnswer T Plan Renaming → EndingData
 ready_data answer = with_shortfalls answer.shortfalls answer.text
 
 abbrev pub failure_data : Failure → EndingData

@@ -27,22 +27,20 @@ use Rattle.covrun.specs.declared.work.CheckedFormat.{CheckedFormat}
 use Rattle.covrun.specs.declared.work.CheckedFormat.TheVariants as checked
 use Rattle.covrun.specs.declared.work.FileFormat.TheVariants.{Tracefile, LargeTracefile, GcovOutput}
 
--- what is asked after all files are collected: the answer to an operation; or the report, or the summary, of only the chosen
--- source files; or the totals of these, in one of two forms, which are then compared with limits; or the list of these, in one of
+-- what is asked after all files are collected: the answer to an operation; or the report of only the chosen source files; or the
+-- totals of these, in one of two forms, which are then compared with the limits, if there are any; or the list of these, in one of
 -- two forms
 pub data QuestionData : Type 0 where
   Answer : (op : OpData) → QuestionData
   ChosenReport : (choice : ChoiceData) → QuestionData
-  ChosenSummary : (choice : ChoiceData) → QuestionData
-  LimitedTotals : (form : TotalsForm) → (choice : ChoiceData) → (limits : LimitsData) → QuestionData
+  ChosenTotals : (form : TotalsForm) → (choice : ChoiceData) → (limits : LimitsData) → QuestionData
   ChosenList : (form : TotalsForm) → (choice : ChoiceData) → QuestionData
 
 -- the last operation of the history. The choice is no part of the history: only what is printed depends on it
 abbrev pub last_of : QuestionData → OpData
 last_of (Answer op) = op
 last_of (ChosenReport choice) = ReportOp
-last_of (ChosenSummary choice) = SummaryOp
-last_of (LimitedTotals form choice limits) = SummaryOp
+last_of (ChosenTotals form choice limits) = SummaryOp
 last_of (ChosenList form choice) = SummaryOp
 
 -- what a subcommand that collects files has to do. `files`: the files to read. `format`: what they are. `strictness`: what is
@@ -76,15 +74,15 @@ chosen_or_all (Some choice) = choice
 abbrev pub limits_of : Limits → LimitsData
 limits_of limits = record { lines = limits.lines; functions = limits.functions; branches = limits.branches }
 
--- what `summary` asks in words: the summary, or if there is a limit, the totals that are compared with it
+-- what `summary` asks in words: the totals of the chosen files; or those of all files, if there is a limit; or the summary
 abbrev pub words_asked : LimitsData → Option ChoiceData → QuestionData
-words_asked limits choice =
-    if has_limit limits then LimitedTotals forms.Words (chosen_or_all choice) limits else asked_of SummaryOp ChosenSummary choice
+words_asked limits None = if has_limit limits then ChosenTotals forms.Words AllFiles limits else Answer SummaryOp
+words_asked limits (Some choice) = ChosenTotals forms.Words choice limits
 
 -- what `summary` asks
 abbrev pub summary_asked : TotalsForm → LimitsData → Option ChoiceData → QuestionData
 summary_asked forms.Words limits choice = words_asked limits choice
-summary_asked forms.Json limits choice = LimitedTotals forms.Json (chosen_or_all choice) limits
+summary_asked forms.Json limits choice = ChosenTotals forms.Json (chosen_or_all choice) limits
 
 -- tracefiles of this version of lcov, of a limited length or of any
 abbrev pub tracefiles : TextSize → LcovVersion → FileFormat

@@ -7,10 +7,10 @@ ghost use Rattle.covsession.specs.declared.session.fault.SessionFault.TheVariant
 ghost use Rattle.covrun.specs.Printed.{HasPrinted, WritesOn, sink_data};
 
 use crate::block::{BLOCK_BYTES, Block};
-use covnamed::Printing;
-use covreport::{Noted, Printer};
+use covreport::{Noted, Printer, Printing, Table};
 use covsession::{SessionFault, put_bytes};
 use covstream::Sink;
+use std::alloc::Global;
 use std::marker::{Brand, Model, PhantomData};
 
 /// Names a printer's sink, and the sink's state before printing. The trait has no functions. The contract of a function that takes
@@ -148,8 +148,8 @@ struct Printout<'s, O> {
 }
 
 /// Prints `text` to the sink that `L` names.
-fn printed_at<'s, O: Sink, L: Place>(
-    text: Printing<'_>,
+fn printed_at<'s, O: Sink, L: Place, T: Table<Global>>(
+    text: Printing<'_, Global, T>,
     block: Block,
     output: &'s mut O,
 ) -> Printout<'s, O>
@@ -174,8 +174,8 @@ fn printed_at<'s, O: Sink, L: Place>(
 
 /// Prints `text` in blocks while the text is made, and flushes the output. Never allocates: the caller provides `block`, which is
 /// empty.
-pub(crate) fn print_text<O: Sink>(
-    text: Printing<'_>,
+pub(crate) fn print_text<O: Sink, T: Table<Global>>(
+    text: Printing<'_, Global, T>,
     block: Block,
     output: &mut O,
 ) -> Result<(), SessionFault>
@@ -188,7 +188,7 @@ pub(crate) fn print_text<O: Sink>(
     ensures begun { OnErr result (HasBegun (O.written output.old) (O.written output.new) text.entry) }
     ensures fault { IfErr result (λ fault. fault ≡ session_faults.Write) }
 {
-    let Printout { sink, has_failed } = printed_at::<O, Brand>(text, block, output);
+    let Printout { sink, has_failed } = printed_at::<O, Brand, T>(text, block, output);
     if has_failed {
         return Err(SessionFault::Write);
     }

@@ -12,6 +12,7 @@ ghost use Rattle.covsession.specs.declared.session.fault.SessionFault.TheVariant
 ghost use Rattle.covrun.specs.Call.{IsWorkDone};
 ghost use Rattle.covbook.specs.Step.{ops_in, table_of};
 ghost use Rattle.covtable.specs.Content.{content_at};
+ghost use Rattle.covtable.specs.Files.{files_with_totals};
 ghost use Rattle.covrun.specs.Ending.{Stopped, Unreadable, of_collected, asked_shortfalls, asked_text, complaints, faulty_line, refusal_line, ran_out, name_at, strict_line, strict_lines as strict_lines_of, unclean_line, with_shortfalls};
 ghost use Rattle.covrun.specs.Strict.{asked_patterns, unmatched_line, unmatched_lines as unmatched_lines_of};
 ghost use Rattle.covrun.specs.Folder.{folder_data};
@@ -35,10 +36,10 @@ use covbook::{Answer, Answered};
 use covcommand::Strictness;
 use covdata::{Bytes, Memory};
 use covlist::put_shown_name;
-use covnamed::{CollectedBook, collect_into_book};
+use covreport::Table;
 use covsession::{SessionFault, clash_line, refused_line};
 use covstream::{Sink, Source};
-use covworkers::{IntoBookFault, NoGate, RefusedInput};
+use covworkers::{CollectedBook, IntoBookFault, NoGate, RefusedInput, collect_into_book};
 use std::alloc::Global;
 use std::sync::Wait;
 use std::thread::Threads;
@@ -53,6 +54,7 @@ pub(crate) fn do_work<
     I: Source,
     O: Sink,
     E: Sink,
+    T: Table<Global, Plan: Send, Renaming: Send> + Send,
 >(
     rt: &R,
     folder: &F,
@@ -71,7 +73,7 @@ pub(crate) fn do_work<
         return report_failure(Failure::Stopped(SessionFault::Memory), world);
     };
     match collect_into_book(rt, alloc, inputs, work.jobs, &NoGate) {
-        Ok(collected) => match answer_of(
+        Ok(collected) => match answer_of::<T>(
             alloc,
             naming,
             names,
@@ -102,14 +104,14 @@ fn unreadable(alloc: Global, naming: Naming, name: &str) -> Failure
 
 /// Returns the answer to `asks` after all files are collected, or why there is none: `Stopped` if memory runs out. All memory for
 /// printing is already reserved in the answer.
-fn answer_of<'a>(
+fn answer_of<'a, T: Table<Global>>(
     alloc: Global,
     naming: Naming,
     files: &[String],
     strictness: Strictness,
     asks: &Question,
-    collected: &'a CollectedBook<TextFault>,
-) -> Result<ReadyAnswer<'a>, Failure>
+    collected: &'a CollectedBook<T, TextFault>,
+) -> Result<ReadyAnswer<'a, T>, Failure>
     requires { IsText (last_of (question_data asks.now)) }
     ensures answer { IfOk result (λ answer. ready_data answer ≡ of_collected naming (map string_bytes files.now) strictness (question_data asks.now)
         (collected.now.book.entries ++ next_entry collected.now.book.entries 0 (last_of (question_data asks.now)) ∷ []) collected.now.refused) }
@@ -132,11 +134,11 @@ fn answer_of<'a>(
 }
 
 /// Prepares the text that `asks` requests, and the lines about rates below their thresholds.
-fn answered<'a>(
+fn answered<'a, T: Table<Global>>(
     alloc: Global,
     asks: &Question,
-    collected: &'a CollectedBook<TextFault>,
-) -> Result<ReadyAnswer<'a>, SessionFault>
+    collected: &'a CollectedBook<T, TextFault>,
+) -> Result<ReadyAnswer<'a, T>, SessionFault>
     requires { IsText (last_of (question_data asks.now)) }
     ensures answer { IfOk result (λ answer. ready_data answer ≡ with_shortfalls
         (asked_shortfalls (question_data asks.now) (collected.now.book.entries ++ next_entry collected.now.book.entries 0 (last_of (question_data asks.now)) ∷ []))
@@ -149,11 +151,11 @@ fn answered<'a>(
 }
 
 /// The lines about invalid files, followed by those about clashes.
-fn complaint_lines(
+fn complaint_lines<T: Table<Global>>(
     alloc: Global,
     naming: Naming,
     files: &[String],
-    collected: &CollectedBook<TextFault>,
+    collected: &CollectedBook<T, TextFault>,
 ) -> Result<Bytes, SessionFault>
     ensures lines { IfOk result (λ lines. lines ≡ complaints naming (map string_bytes files.now) collected.now.refused collected.now.book.entries) }
     ensures fault { IfErr result (λ fault. fault ≡ session_faults.Memory) }
@@ -264,12 +266,12 @@ fn add_clash(
 
 /// The lines that fail a strict run: those about files that aren't clean, or those about patterns that match no file if all files
 /// are clean.
-fn strict_lines(
+fn strict_lines<T: Table<Global>>(
     alloc: Global,
     files: &[String],
     strictness: Strictness,
     asks: &Question,
-    collected: &CollectedBook<TextFault>,
+    collected: &CollectedBook<T, TextFault>,
 ) -> Result<Bytes, SessionFault>
     requires { IsText (last_of (question_data asks.now)) }
     ensures lines { IfOk result (λ lines. lines ≡ strict_lines_of (map string_bytes files.now) strictness (question_data asks.now)
@@ -285,11 +287,11 @@ fn strict_lines(
 }
 
 /// The lines about patterns that match no file; none unless the run is strict.
-fn unmatched_lines(
+fn unmatched_lines<T: Table<Global>>(
     alloc: Global,
     strictness: Strictness,
     asks: &Question,
-    collected: &CollectedBook<TextFault>,
+    collected: &CollectedBook<T, TextFault>,
 ) -> Result<Bytes, Memory>
     requires { IsText (last_of (question_data asks.now)) }
     ensures { IfOk result (λ lines. lines ≡ unmatched_lines_of strictness (question_data asks.now)
@@ -302,17 +304,18 @@ fn unmatched_lines(
 }
 
 /// The lines about patterns that match no file.
-fn unmatched_patterns(
+fn unmatched_patterns<T: Table<Global>>(
     alloc: Global,
     asks: &Question,
-    collected: &CollectedBook<TextFault>,
+    collected: &CollectedBook<T, TextFault>,
 ) -> Result<Bytes, Memory>
     requires { IsText (last_of (question_data asks.now)) }
-    ensures { IfOk result (λ lines. lines ≡ flat_map (unmatched_line (content_at (table_of (ops_in
-        (collected.now.book.entries ++ next_entry collected.now.book.entries 0 (last_of (question_data asks.now)) ∷ []))))) (asked_patterns (question_data asks.now))) }
+    ensures { IfOk result (λ lines. lines ≡ flat_map (unmatched_line (files_with_totals (content_at (table_of (ops_in
+        (collected.now.book.entries ++ next_entry collected.now.book.entries 0 (last_of (question_data asks.now)) ∷ [])))))) (asked_patterns (question_data asks.now))) }
 {
     let mut lines = Bytes::new(alloc);
-    asks.add_unmatched(collected.book.store(), &mut lines)?;
+    let files = collected.book.store().files(alloc)?;
+    asks.add_unmatched(files.as_slice(), &mut lines)?;
     Ok(lines)
 }
 

@@ -10,14 +10,16 @@ use crate::argument_fault::ArgumentFault;
 use crate::ready_text::ReadyText;
 use crate::work::WorkFault;
 use covdata::Bytes;
+use covreport::Table;
 use covsession::SessionFault;
 use covworkers::CollectFault;
+use std::alloc::Global;
 
 /// An answer that is ready to be printed.
 #[derive(Drop)]
-pub(crate) struct ReadyAnswer<'a> {
+pub(crate) struct ReadyAnswer<'a, T: Table<Global>> {
     /// The text to print.
-    pub(crate) text: ReadyText<'a>,
+    pub(crate) text: ReadyText<'a, T>,
     /// The lines about rates below their thresholds; empty if there are no such rates.
     pub(crate) shortfalls: Bytes,
 }

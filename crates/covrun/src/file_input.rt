@@ -1,6 +1,6 @@
 //! Files as inputs of collecting.
 
-use crate::files::{FileFault, file_text};
+use crate::files::file_text;
 use crate::folder::Folder;
 use crate::large_input::{open_large, share, take_last};
 use crate::strict::read_strictly;
@@ -11,6 +11,7 @@ use covcommand::{LcovVersion, Strictness};
 use covdata::{Bytes, Memory};
 use covjobs::Input;
 use covlarge::{LargeTracefile, NextPiece, PieceFault};
+use covstream::BlockFault;
 use covworkers::{Given, LateFault, LateInput, Part};
 use std::alloc::Global;
 
@@ -71,8 +72,8 @@ impl<'a, F: Folder> FileInput<'a, F> {
     {
         match file_text(self.folder, alloc, self.name) {
             Ok(text) => read_text(alloc, self.format, self.strictness, text),
-            Err(FileFault::Unreadable(_)) => Err(LateFault::Unreadable),
-            Err(FileFault::Memory) => Err(LateFault::Memory),
+            Err(BlockFault::Unreadable) => Err(LateFault::Unreadable),
+            Err(BlockFault::Memory) => Err(LateFault::Memory),
         }
     }
 

@@ -14,8 +14,9 @@ ghost use Rattle.covsession.specs.Fault.{HasBegun};
 ghost use Rattle.covsession.specs.declared.session.fault.SessionFault.TheVariants as session_faults;
 
 use crate::check_verdict::CheckVerdict;
-use crate::files::{FileFault, file_text};
+use crate::files::file_text;
 use crate::folder::Folder;
+use crate::messages::{CANT_READ, NO_ITEMS};
 use crate::sinks::Sinks;
 use crate::strict::is_clean;
 use crate::work::CheckedFormat;
@@ -25,7 +26,7 @@ use covdata::{Bytes, ReadFault};
 use covlarge::{PieceFault, check_large};
 use covlist::put_shown_name;
 use covsession::{SessionFault, refused_line};
-use covstream::Sink;
+use covstream::{BlockFault, Sink};
 use std::alloc::Global;
 
 /// The report about a checked file, which is written without allocating.
@@ -115,8 +116,8 @@ fn examine_text<F: Folder>(
     let shown = shown_name(alloc, name.as_bytes())?;
     match file_text(folder, alloc, name) {
         Ok(text) => report_on_text(alloc, format, strictness, &shown, text.get()),
-        Err(FileFault::Unreadable(_)) => report_on_unread(alloc, &shown),
-        Err(FileFault::Memory) => Err(SessionFault::Memory),
+        Err(BlockFault::Unreadable) => report_on_unread(alloc, &shown),
+        Err(BlockFault::Memory) => Err(SessionFault::Memory),
     }
 }
 
@@ -149,7 +150,7 @@ fn report_on_unread(alloc: Global, shown: &Bytes) -> Result<FileReport, SessionF
 {
     Ok(FileReport {
         line: Vec::new(alloc),
-        complaint: joined(alloc, shown.get(), b": can't read\n")?,
+        complaint: joined(alloc, shown.get(), CANT_READ)?,
         verdict: CheckVerdict::Unreadable,
     })
 }
@@ -230,7 +231,7 @@ fn unaccepted(
     ensures fault { IfErr result (λ fault. fault ≡ session_faults.Memory) }
 {
     match strictness {
-        Strictness::Lenient => joined(alloc, shown, b": no items\n"),
+        Strictness::Lenient => joined(alloc, shown, NO_ITEMS),
         Strictness::Strict => joined(alloc, line, b""),
     }
 }

@@ -7,21 +7,12 @@ ghost use Rattle.covrun.specs.Folder.{IsTextOf, folder_data};
 ghost use Rattle.covstream.specs.Blocks.{IsReadFault};
 
 use crate::folder::Folder;
-use covdata::{Bytes, MAX_BYTES, Memory};
+use covdata::{Bytes, MAX_BYTES};
 use covstream::{BLOCK_BYTES, BlockFault, Source, read_at_most};
-use std::alloc::{AllocError, Global};
+use std::alloc::Global;
 
 /// The most bytes of a file that are read: one more than the size limit. The extra byte shows that the file is too long.
 const MAX_KEPT: usize = MAX_BYTES + 1;
-
-/// Why a file couldn't be read.
-#[derive(Clone, Copy)]
-pub(crate) enum FileFault<'a> {
-    /// The file of this name can't be opened, or a read of it failed.
-    Unreadable(&'a str),
-    /// An allocation failed.
-    Memory,
-}
 
 /// Reads the rest of `source`, up to one byte more than the size limit. Reserves `awaited` bytes first, so the buffer grows only if
 /// more bytes come. Fails with `Unreadable` if a read failed, and otherwise with `Memory`.
@@ -42,46 +33,22 @@ pub(crate) fn read_text<S: Source>(
     Ok(text)
 }
 
-/// Reads the file called `name`, up to one byte more than the size limit.
-pub(crate) fn file_text<'a, F: Folder>(
+/// Reads the file called `name`, up to one byte more than the size limit. Fails with `Unreadable` if the file can't be opened, or if
+/// a read of it failed.
+pub(crate) fn file_text<F: Folder>(
     folder: &F,
     alloc: Global,
-    name: &'a str,
-) -> Result<Bytes, FileFault<'a>>
+    name: &str,
+) -> Result<Bytes, BlockFault>
     ensures text { IfOk result (IsTextOf (F.holds folder.now name.now)) }
     ensures few { IfOk result (λ text. length text ≤ suc max_bytes) }
     ensures unread { IfErr result (IsUnread (folder_data F.Folder F.File.Source folder.now) name.now) }
 {
     let Ok(opened) = folder.open(name) else {
-        return Err(FileFault::Unreadable(name));
+        return Err(BlockFault::Unreadable);
     };
     let awaited = opened.awaited.min(MAX_KEPT as u64) as usize;
     let mut source = opened.source;
-    match read_text(alloc, awaited, &mut source) {
-        Ok(text) => Ok(text),
-        Err(BlockFault::Unreadable) => Err(FileFault::Unreadable(name)),
-        Err(BlockFault::Memory) => Err(FileFault::Memory),
-    }
-}
-
-impl<'a> From<Memory> for FileFault<'a> {
-    ghost use Rattle.std.specs.Prelude.{◌≡◌};
-    ghost use Rattle.covrun.specs.declared.files.FileFault.TheVariants as faults;
-
-    ghost from_gives = { λ _ f. f ≡ faults.Memory };
-
-    fn from(_refused: Memory) -> FileFault<'a> {
-        FileFault::Memory
-    }
-}
-
-impl<'a> From<AllocError> for FileFault<'a> {
-    ghost use Rattle.std.specs.Prelude.{◌≡◌};
-    ghost use Rattle.covrun.specs.declared.files.FileFault.TheVariants as faults;
-
-    ghost from_gives = { λ _ f. f ≡ faults.Memory };
-
-    fn from(_refused: AllocError) -> FileFault<'a> {
-        FileFault::Memory
-    }
+    let text = read_text(alloc, awaited, &mut source)?;
+    Ok(text)
 }

@@ -3,9 +3,10 @@
 ghost use Rattle.std.specs.Prelude.{◌≡◌, ℕ, List, Option, None, IfOk, IfErr};
 ghost use Rattle.std.specs.Io.KnownBytes.{Keeps};
 
+use crate::named_file::open_named;
+use covreport::Noted;
 use covstream::{Failed, FromRead, Source};
-use std::fs;
-use std::fs::OpenFile;
+use std::fs::{OpenFile, OpenOptions};
 use std::rt::Files;
 
 /// An open file, and the length that it claims to have.
@@ -15,6 +16,8 @@ pub struct Opened<S> {
     pub source: S,
     /// How many bytes the file claims to have: only a hint for reserving memory, since more or fewer may come.
     pub awaited: u64,
+    /// Proof only: the name that the file was opened by.
+    pub name: Noted,
 }
 
 /// Opens files by their names.
@@ -39,6 +42,7 @@ pub trait Folder {
         ensures bytes { IfOk result (λ opened. Keeps (holds self.now name.now) (Self.File.left opened.source)) }
         ensures calls { IfOk result (λ opened. Self.File.reads opened.source ≡ 0) }
         ensures failures { IfOk result (λ opened. Self.File.failed_reads opened.source ≡ 0) }
+        ensures named { IfOk result (λ opened. opened.name.bytes ≡ name.now) }
         ensures opened { IfOk result (λ opened. may_open self.now name.now opened.source) }
         ensures refused { IfErr result (λ _. may_refuse self.now name.now) };
 }
@@ -46,8 +50,8 @@ pub trait Folder {
 /// The file system of std as a folder.
 ///
 /// std's `Files` doesn't specify what a file holds, and another program may change a file at any time. So `holds` is `None` for
-/// every file, just as `left` of a `FromRead` is `None` for a reader whose bytes std doesn't specify. It is assumed that std
-/// opens the file with the given name and reads the bytes of that file.
+/// every file, just as `left` of a `FromRead` is `None` for a reader whose bytes std doesn't specify. It is assumed that std opens
+/// the file with the given name (`open_named`) and reads the bytes of that file.
 #[derive(Clone, Copy)]
 pub struct FromFiles<'a, R> {
     files: &'a R,
@@ -70,14 +74,13 @@ impl<'a, R: Files> Folder for FromFiles<'a, R> {
     type File = FromRead<R::File>;
 
     fn open(&self, name: &str) -> Result<Opened<FromRead<R::File>>, Failed> {
-        let Ok(file) = fs::open(self.files, name) else {
+        let mut how = OpenOptions::new();
+        how.read(true);
+        let Ok(file) = open_named(self.files, &how, name) else {
             return Err(Failed);
         };
-        let awaited = size_of(&file);
-        Ok(Opened {
-            source: FromRead::new(file),
-            awaited,
-        })
+        let awaited = size_of(file.get());
+        Ok(file.into_opened(awaited))
     }
 }
 

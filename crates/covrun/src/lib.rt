@@ -12,7 +12,7 @@
 //! files that it writes (`OutputFolder`) and the standard streams. `FromFiles` and `IntoFiles` are the file system of std as these
 //! two folders.
 //!
-//! A sketch: the program's main function.
+//! No function names a store: all are generic over covreport's `Table`. A sketch: the program's main function.
 //!
 //! ```text
 //! fn main(rt: HostRuntime) -> ExitCode {
@@ -25,7 +25,10 @@
 //!         },
 //!     };
 //!     ExitCode::from(match words_of_call(&rt) {
-//!         Ok(words) => run(&rt, &FromFiles::new(&rt), words.as_slice(), &mut world),
+//!         Ok(words) => {
+//!             let folder = FromFiles::new(&rt);
+//!             run::<_, _, _, _, _, _, Store>(&rt, &folder, words.as_slice(), &mut world)
+//!         }
 //!         Err(fault) => refuse(fault, &mut world.sinks),
 //!     })
 //! }
@@ -33,6 +36,7 @@
 #![tactic(auto)]
 
 mod argument_fault;
+mod begun;
 mod block;
 mod block_printer;
 mod check_verdict;
@@ -44,9 +48,12 @@ mod file_report;
 mod files;
 mod folder;
 mod large_input;
+mod messages;
+mod named_file;
 mod naming;
 mod output;
 mod output_folder;
+mod placed_names;
 mod program;
 mod question;
 mod ready_text;
@@ -59,6 +66,7 @@ mod world;
 mod written_file;
 
 pub use argument_fault::ArgumentFault;
+pub use covreport::Noted;
 pub use folder::{Folder, FromFiles, Opened};
 pub use output_folder::{IntoFiles, OutputFault, OutputFolder};
 pub use program::{refuse, run};

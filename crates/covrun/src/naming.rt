@@ -78,9 +78,7 @@ fn naming_asked(asks: &Question) -> Naming
 {
     match asks {
         Question::Answer(_) => Naming::Plain,
-        Question::ChosenReport(_)
-        | Question::ChosenSummary(_)
-        | Question::LimitedTotals { .. }
-        | Question::ChosenList { .. } => Naming::Shown,
+        Question::ChosenReport(_) | Question::ChosenTotals { .. } | Question::ChosenList { .. } =>
+            Naming::Shown,
     }
 }

@@ -12,6 +12,7 @@ ghost use Rattle.covrun.specs.World.{CanCall};
 ghost use Rattle.covsession.specs.declared.session.fault.SessionFault.TheVariants as session_faults;
 
 use crate::ending::{Failure, ReadyAnswer};
+use crate::messages::{CANT_READ, CANT_WRITE, line_of_argument};
 use crate::output_folder::{OutputFault, OutputFolder};
 use crate::sinks::Sinks;
 use crate::world::World;
@@ -19,14 +20,15 @@ use crate::written_file::write_file;
 use covcommand::CommandFault;
 use covdata::{Bytes, Memory};
 use covlist::put_shown_name;
+use covreport::Table;
 use covsession::{SessionFault, line_of, status_of};
 use covstream::{Sink, Source};
 use std::alloc::Global;
 
 /// Reports an answer and returns the exit status. The text goes to the output, or into the file that `file` names.
-pub(crate) fn report_answer<P: OutputFolder, I: Source, O: Sink, E: Sink>(
+pub(crate) fn report_answer<P: OutputFolder, I: Source, O: Sink, E: Sink, T: Table<Global>>(
     alloc: Global,
-    answer: ReadyAnswer<'_>,
+    answer: ReadyAnswer<'_, T>,
     file: Option<&str>,
     world: &mut World<P, I, O, E>,
 ) -> u8
@@ -41,7 +43,10 @@ pub(crate) fn report_answer<P: OutputFolder, I: Source, O: Sink, E: Sink>(
 }
 
 /// Prints the text of an answer, followed by the rates below their thresholds on the error stream. Returns the exit status.
-fn print_answer<O: Sink, E: Sink>(answer: ReadyAnswer<'_>, sinks: &mut Sinks<O, E>) -> u8
+fn print_answer<O: Sink, E: Sink, T: Table<Global>>(
+    answer: ReadyAnswer<'_, T>,
+    sinks: &mut Sinks<O, E>,
+) -> u8
     requires { CanWrite sinks.old }
     ensures { IsEndingPrinted (ready_data answer.entry) result sinks.old sinks.new }
 {
@@ -54,10 +59,10 @@ fn print_answer<O: Sink, E: Sink>(answer: ReadyAnswer<'_>, sinks: &mut Sinks<O, 
 
 /// Writes the text of an answer into the file called `name`, then the rates below their thresholds to the error stream. Returns the
 /// exit status.
-fn write_answer<P: OutputFolder, I: Source, O: Sink, E: Sink>(
+fn write_answer<P: OutputFolder, I: Source, O: Sink, E: Sink, T: Table<Global>>(
     alloc: Global,
     name: &str,
-    answer: ReadyAnswer<'_>,
+    answer: ReadyAnswer<'_, T>,
     world: &mut World<P, I, O, E>,
 ) -> u8
     requires { CanCall world.old }
@@ -83,7 +88,7 @@ fn unwritten_line(alloc: Global, name: &str) -> Result<Bytes, Memory>
 {
     let mut line = Bytes::new(alloc);
     put_shown_name(name.as_bytes(), &mut line)?;
-    line.append(b": can't write\n")?;
+    line.append(CANT_WRITE)?;
     Ok(line)
 }
 
@@ -119,8 +124,8 @@ fn say_failure<O: Sink, E: Sink>(failure: Failure, sinks: &mut Sinks<O, E>) -> u
     ensures { IsEndingPrinted (failure_data failure) result sinks.old sinks.new }
 {
     match failure {
-        Failure::Words(fault) => complain(b"", fault.line(), 2, sinks),
-        Failure::Unreadable(name) => complain(name.get(), b": can't read\n", 1, sinks),
+        Failure::Words(fault) => complain(b"", line_of_argument(fault), 2, sinks),
+        Failure::Unreadable(name) => complain(name.get(), CANT_READ, 1, sinks),
         Failure::Stopped(fault) => complain(b"", line_of(fault), status_of(fault), sinks),
         Failure::Refused(lines) => complain(b"", lines.get(), 4, sinks),
         Failure::Unclean(lines) => complain(b"", lines.get(), 5, sinks),

@@ -1,10 +1,12 @@
 //! The directory trait that output files are written to.
 
-ghost use Rattle.std.specs.Prelude.{◌≡◌, ℕ, ◌<◌, ◌^◌, ◌≤◌, List, Option, None, Some, suc, option_map, IfOk, IfErr, OnOk, OnErr};
-ghost use Rattle.covrun.specs.OutputFiles.{CountsFault, Finishes, IsEmptyIfKnown};
+ghost use Rattle.std.specs.Prelude.{◌≡◌, ℕ, ◌<◌, ◌^◌, ◌≤◌, List, [], Option, None, Some, suc, option_map, IfOk, IfErr, OnOk, OnErr};
+ghost use Rattle.covrun.specs.Begun.{begun_name};
+ghost use Rattle.covrun.specs.OutputFiles.{AddsName, CountsFault, Finishes, IsEmptyIfKnown, RefusedOnlyIf};
 
+use crate::begun::Begun;
+use crate::placed_names::PlacedNames;
 use crate::unfinished_file::{UnfinishedFile, abandon_file, begin_file, finish_file};
-use covreport::Noted;
 use covstream::Sink;
 use std::alloc::AllocGlobal;
 use std::random::RandomSource;
@@ -28,11 +30,17 @@ pub trait OutputFolder {
     // The finished files in order, each with its name and content, if they are known.
     ghost finished: { Self → Option (List (List ℕ × List ℕ)) };
 
+    // The names of the finished files in order, also if their content isn't known.
+    ghost names: { Self → List (List ℕ) };
+
     // The name of the file that is begun, and neither finished nor abandoned.
     ghost begun: { Self → Option (List ℕ) };
 
     // How many files couldn't be written.
     ghost failed: { Self → ℕ };
+
+    // Whether beginning the file with this name may fail.
+    ghost may_refuse: { Self → List ℕ → Type 0 };
 
     /// An unfinished file, as a sink of its bytes.
     type File: Sink + Drop;
@@ -42,11 +50,13 @@ pub trait OutputFolder {
         requires free { begun self.old ≡ None }
         requires few { failed self.old < 2 ^ 63 }
         ensures same { finished self.new ≡ finished self.old }
+        ensures unnamed { names self.new ≡ names self.old }
         ensures begun { OnOk result (begun self.new ≡ Some name.now) }
         ensures none { OnErr result (begun self.new ≡ None) }
         ensures empty { IfOk result (λ file. IsEmptyIfKnown (finished self.old) (Self.File.written file)) }
         ensures fresh { IfOk result (λ file. Self.File.failed_writes file ≡ 0) }
         ensures good { OnOk result (failed self.new ≡ failed self.old) }
+        ensures refused { IfErr result (RefusedOnlyIf (may_refuse self.old name.now)) }
         ensures counted { IfErr result (λ fault. CountsFault fault (failed self.old) (failed self.new)) };
 
     /// Gives the begun file its name, once all bytes of the file are written and flushed. Drops the file on an error.
@@ -56,6 +66,8 @@ pub trait OutputFolder {
         requires few { failed self.old < 2 ^ 63 }
         ensures finished { OnOk result ((name text : List ℕ) → begun self.old ≡ Some name → Self.File.written file ≡ Some text → Finishes name text (finished self.old) (finished self.new)) }
         ensures same { OnErr result (finished self.new ≡ finished self.old) }
+        ensures named { OnOk result ((name : List ℕ) → begun self.old ≡ Some name → AddsName name (names self.old) (names self.new)) }
+        ensures unnamed { OnErr result (names self.new ≡ names self.old) }
         ensures none { begun self.new ≡ None }
         ensures good { OnOk result (failed self.new ≡ failed self.old) }
         ensures counted { IfErr result (λ fault. CountsFault fault (failed self.old) (failed self.new)) };
@@ -65,19 +77,21 @@ pub trait OutputFolder {
         requires failed { 1 ≤ Self.File.failed_writes file }
         requires few { failed self.old < 2 ^ 63 }
         ensures same { finished self.new ≡ finished self.old }
+        ensures unnamed { names self.new ≡ names self.old }
         ensures none { begun self.new ≡ None }
         ensures counted { failed self.new ≡ suc (failed self.old) };
 }
 
 /// The file system of std as an output folder.
 ///
-/// std's `Files` doesn't specify what a file holds, so `finished` is `None`. It is assumed that std does with files what the
-/// functions of `unfinished_file` ask for.
+/// std's `Files` doesn't specify what a file holds, so `finished` is `None`, and any file may fail to be begun. `names` has a name
+/// only if std opened or renamed a file accordingly (`PlacedFile`).
 #[derive(Drop)]
 pub struct IntoFiles<'a, R> {
     rt: &'a R,
-    // Proof only: the name of the file that is begun.
-    begun: Option<Noted>,
+    begun: Option<Begun>,
+    // Proof only: the names of the finished files.
+    names: PlacedNames,
     failed: u64,
 }
 
@@ -86,10 +100,12 @@ impl<'a, R: Files + RandomSource + AllocGlobal> IntoFiles<'a, R> {
     pub fn new(rt: &'a R) -> IntoFiles<'a, R>
         ensures failed { ⟦<IntoFiles<'a, R> as OutputFolder>⟧.failed result ≡ 0 }
         ensures begun { ⟦<IntoFiles<'a, R> as OutputFolder>⟧.begun result ≡ None }
+        ensures names { ⟦<IntoFiles<'a, R> as OutputFolder>⟧.names result ≡ [] }
     {
         IntoFiles {
             rt,
             begun: None,
+            names: PlacedNames::none(),
             failed: 0,
         }
     }
@@ -99,6 +115,7 @@ impl<'a, R: Files + RandomSource + AllocGlobal> IntoFiles<'a, R> {
         requires { self.old.failed < 2 ^ 63 }
         ensures counted { CountsFault fault self.old.failed self.new.failed }
         ensures begun { self.new.begun ≡ self.old.begun }
+        ensures names { self.new.names ≡ self.old.names }
     {
         match fault {
             OutputFault::Failed => self.failed += 1,
@@ -110,16 +127,20 @@ impl<'a, R: Files + RandomSource + AllocGlobal> IntoFiles<'a, R> {
 impl<'a, R: Files + RandomSource + AllocGlobal> OutputFolder for IntoFiles<'a, R> {
     ghost finished = { λ _. None };
 
-    ghost begun = { λ f. option_map (λ name. name.bytes) f.begun };
+    ghost names = { λ f. f.names.all };
+
+    ghost begun = { λ f. option_map begun_name f.begun };
 
     ghost failed = { λ f. f.failed };
+
+    ghost may_refuse = { λ _ _. Unit {0} };
 
     type File = UnfinishedFile<R::File>;
 
     fn begin(&mut self, name: &str) -> Result<UnfinishedFile<R::File>, OutputFault> {
         match begin_file(self.rt, name) {
-            Ok(file) => {
-                self.begun = Some(Noted::none().and(name.as_bytes()));
+            Ok((file, begun)) => {
+                self.begun = Some(begun);
                 Ok(file)
             }
             Err(fault) => {
@@ -130,9 +151,16 @@ impl<'a, R: Files + RandomSource + AllocGlobal> OutputFolder for IntoFiles<'a, R
     }
 
     fn finish(&mut self, file: UnfinishedFile<R::File>) -> Result<(), OutputFault> {
-        self.begun = None;
-        match finish_file(self.rt, file) {
-            Ok(()) => Ok(()),
+        let Some(begun) = self.begun.take() else {
+            abandon_file(self.rt, file);
+            self.failed += 1;
+            return Err(OutputFault::Failed);
+        };
+        match finish_file(self.rt, file, begun) {
+            Ok(placed) => {
+                self.names = self.names.and(placed);
+                Ok(())
+            }
             Err(fault) => {
                 self.count(fault);
                 Err(fault)

@@ -18,6 +18,7 @@ use crate::sinks::Sinks;
 use crate::work::{Task, task_for};
 use crate::world::World;
 use covcommand::{Asked, CommandFault, command};
+use covreport::Table;
 use covstream::{Sink, Source};
 use std::alloc::{AllocGlobal, Global};
 use std::sync::Wait;
@@ -51,6 +52,8 @@ use std::thread::Threads;
 ///
 /// A run without a subcommand is a session over the input and the output. Only a session reads the input. The output is flushed,
 /// the error stream isn't. `run` returns only after all jobs have ended.
+///
+/// The caller names the store `T` that keeps the counts. The contract is the same for every store.
 pub fn run<
     R: AllocGlobal + Threads + Wait + Sync,
     F: Folder<File: Send> + Sync,
@@ -58,13 +61,14 @@ pub fn run<
     I: Source,
     O: Sink,
     E: Sink,
+    T: Table<Global, Plan: Send, Renaming: Send> + Send,
 >(rt: &R, folder: &F, words: &[String], world: &mut World<P, I, O, E>) -> u8
     requires { CanCall world.old }
     ensures { IsCall (folder_data F.Folder F.File.Source folder.now) (map string_bytes words.now) result world.old world.new }
 {
     let alloc = rt.alloc();
     match command(alloc, words) {
-        Ok(asked) => run_command(rt, folder, alloc, asked, world),
+        Ok(asked) => run_command::<R, F, P, I, O, E, T>(rt, folder, alloc, asked, world),
         Err(fault) => report_line(fault, &mut world.sinks),
     }
 }
@@ -77,6 +81,7 @@ fn run_command<
     I: Source,
     O: Sink,
     E: Sink,
+    T: Table<Global, Plan: Send, Renaming: Send> + Send,
 >(rt: &R, folder: &F, alloc: Global, asked: Asked, world: &mut World<P, I, O, E>) -> u8
     requires { CanCall world.old }
     ensures { IsCommandDone (folder_data F.Folder F.File.Source folder.now) asked.command asked.strictness asked.size
@@ -89,8 +94,10 @@ fn run_command<
         output: file,
     } = asked;
     match task_for(alloc, command, strictness, size) {
-        Ok(Task::Session) => serve(alloc, world),
-        Ok(Task::Collect(work)) => do_work(rt, folder, alloc, &work, name_of(&file), world),
+        Ok(Task::Session) => serve::<P, I, O, E, T>(alloc, world),
+        Ok(Task::Collect(work)) => {
+            do_work::<R, F, P, I, O, E, T>(rt, folder, alloc, &work, name_of(&file), world)
+        }
         Ok(Task::Check { options, files }) => {
             check_files(rt, folder, alloc, &options, files.get(), &mut world.sinks)
         }
@@ -99,14 +106,14 @@ fn run_command<
 }
 
 /// Runs a session over the input and the output, and returns the exit status.
-fn serve<P: OutputFolder, I: Source, O: Sink, E: Sink>(
+fn serve<P: OutputFolder, I: Source, O: Sink, E: Sink, T: Table<Global>>(
     alloc: Global,
     world: &mut World<P, I, O, E>,
 ) -> u8
     requires { CanCall world.old }
     ensures { IsServed result world.old world.new }
 {
-    world.sinks.serve(alloc, &mut world.input)
+    world.sinks.serve::<I, T>(alloc, &mut world.input)
 }
 
 /// The name of the output file; `None` if no file is named, or if the name is that of standard output.

@@ -16,10 +16,9 @@ use covcommand::TotalsForm;
 use covdata::{Bytes, Memory};
 use covlimit::{Limits, shortfall_lines};
 use covlist::{list_json, list_table, summary_json};
-use covnamed::{CollectedBook, Printing};
-use covreport::{Choice, chosen_totals, summary_text};
-use covstore::Store;
-use covtable::Totals;
+use covreport::{Choice, Printing, Table, chosen_totals, summary_text};
+use covtable::{FileTotals, Totals};
+use covworkers::CollectedBook;
 use std::alloc::Global;
 
 /// The question that a run answers after its files are collected.
@@ -29,10 +28,8 @@ pub(crate) enum Question {
     Answer(Op),
     /// The tracefile of the chosen source files.
     ChosenReport(Choice),
-    /// The summary of the chosen source files.
-    ChosenSummary(Choice),
-    /// The totals of the chosen source files, in this form, to be compared with the thresholds.
-    LimitedTotals {
+    /// The totals of the chosen source files, in this form, to be compared with the thresholds, if there are any.
+    ChosenTotals {
         form: TotalsForm,
         choice: Choice,
         limits: Limits,
@@ -46,15 +43,16 @@ pub(crate) enum Question {
 
 impl Question {
     ghost use Rattle.std.specs.List.{flat_map};
-    ghost use Rattle.std.specs.Prelude.{◌≡◌, ◌++◌, [], ◌∷◌, option_map, IfOk, OnOk};
+    ghost use Rattle.std.specs.Prelude.{◌≡◌, ◌++◌, [], ◌∷◌, map, option_map, IfOk, OnOk};
     ghost use Rattle.covbook.specs.Op.{ReportOp, SummaryOp};
     ghost use Rattle.covbook.specs.Step.{next_entry};
     ghost use Rattle.covbook.specs.Texts.{IsText};
     ghost use Rattle.covlimit.specs.LimitsView.{limits_data};
+    ghost use Rattle.covtable.specs.ValuesView.{file_totals_data};
     ghost use Rattle.covrun.specs.Ending.{asked_shortfalls, asked_text};
     ghost use Rattle.covrun.specs.Strict.{asked_patterns, unmatched_line};
     ghost use Rattle.covrun.specs.View.{question_data};
-    ghost use Rattle.covrun.specs.Work.{ChosenList, ChosenReport, ChosenSummary, asked_of, chosen_or_all, last_of, summary_asked, words_asked};
+    ghost use Rattle.covrun.specs.Work.{ChosenList, ChosenReport, asked_of, chosen_or_all, last_of, summary_asked, words_asked};
 
     /// Asks for the tracefile of the chosen source files, or of all source files if `choice` is `None`.
     pub(crate) fn report(choice: Option<Choice>) -> Question
@@ -72,7 +70,7 @@ impl Question {
     {
         match form {
             TotalsForm::Words => Question::words(limits, choice),
-            TotalsForm::Json => Question::LimitedTotals {
+            TotalsForm::Json => Question::ChosenTotals {
                 form: TotalsForm::Json,
                 choice: choice.unwrap_or(Choice::All),
                 limits,
@@ -80,19 +78,21 @@ impl Question {
         }
     }
 
-    /// Asks for the summary of the chosen source files, or for their totals if there is a threshold to compare these with.
+    /// Asks for the totals of the chosen source files. Without a choice and a threshold, asks for the book's own summary.
     fn words(limits: Limits, choice: Option<Choice>) -> Question
         ensures { question_data result ≡ words_asked (limits_data limits) (option_map choice_data choice) }
     {
-        if limits.has_limit() {
-            return Question::LimitedTotals {
-                form: TotalsForm::Words,
-                choice: choice.unwrap_or(Choice::All),
-                limits,
-            };
-        }
         match choice {
-            Some(choice) => Question::ChosenSummary(choice),
+            Some(choice) => Question::ChosenTotals {
+                form: TotalsForm::Words,
+                choice,
+                limits,
+            },
+            None if limits.has_limit() => Question::ChosenTotals {
+                form: TotalsForm::Words,
+                choice: Choice::All,
+                limits,
+            },
             None => Question::Answer(Op::Summary),
         }
     }
@@ -108,11 +108,11 @@ impl Question {
     }
 
     /// Prepares the requested text for printing. The operation of an `Answer` must be one that asks for a text.
-    pub(crate) fn printing<'b>(
+    pub(crate) fn printing<'b, T: Table<Global>>(
         &self,
         alloc: Global,
-        collected: &'b CollectedBook<TextFault>,
-    ) -> Result<Printing<'b>, Memory>
+        collected: &'b CollectedBook<T, TextFault>,
+    ) -> Result<Printing<'b, Global, T>, Memory>
         requires { IsText (last_of (question_data self.now)) }
         ensures { IfOk result (λ text. text ≡ asked_text (question_data self.now)
             (collected.now.book.entries ++ next_entry collected.now.book.entries 0 (last_of (question_data self.now)) ∷ [])) }
@@ -120,14 +120,9 @@ impl Question {
         match self {
             Question::Answer(op) => collected.book.printing(alloc, op),
             Question::ChosenReport(choice) => {
-                Printing::of_store(alloc, collected.book.store(), copy_of(alloc, choice)?)
+                Printing::of_store(alloc, collected.book.store(), choice.copy(alloc)?)
             }
-            Question::ChosenSummary(choice) => {
-                let totals = chosen_totals(collected.book.store(), choice);
-                let text = summary_text(alloc, &totals)?;
-                Ok(Printing::of_text(text))
-            }
-            Question::LimitedTotals { form, choice, .. } => {
+            Question::ChosenTotals { form, choice, .. } => {
                 let totals = chosen_totals(collected.book.store(), choice);
                 let text = totals_text(alloc, *form, &totals)?;
                 Ok(Printing::of_text(text))
@@ -140,16 +135,16 @@ impl Question {
     }
 
     /// The lines about rates below their thresholds; empty without thresholds.
-    pub(crate) fn shortfalls(
+    pub(crate) fn shortfalls<T: Table<Global>>(
         &self,
         alloc: Global,
-        collected: &CollectedBook<TextFault>,
+        collected: &CollectedBook<T, TextFault>,
     ) -> Result<Bytes, Memory>
         ensures { IfOk result (λ lines. lines ≡ asked_shortfalls (question_data self.now)
             (collected.now.book.entries ++ next_entry collected.now.book.entries 0 (last_of (question_data self.now)) ∷ [])) }
     {
         match self {
-            Question::LimitedTotals { choice, limits, .. } => {
+            Question::ChosenTotals { choice, limits, .. } => {
                 let totals = chosen_totals(collected.book.store(), choice);
                 shortfall_lines(alloc, limits, &totals)
             }
@@ -157,16 +152,19 @@ impl Question {
         }
     }
 
-    /// Appends to `lines` a line about each pattern of the question that matches no file of `store`.
-    pub(crate) fn add_unmatched(&self, store: &Store, lines: &mut Bytes) -> Result<(), Memory>
-        ensures { OnOk result (lines.new ≡ lines.old ++ flat_map (unmatched_line store.now.sections) (asked_patterns (question_data self.now))) }
+    /// Appends to `lines` a line about each pattern of the question that matches none of `files`.
+    pub(crate) fn add_unmatched(
+        &self,
+        files: &[FileTotals<'_>],
+        lines: &mut Bytes,
+    ) -> Result<(), Memory>
+        ensures { OnOk result (lines.new ≡ lines.old ++ flat_map (unmatched_line (map file_totals_data files.now)) (asked_patterns (question_data self.now))) }
     {
         match self {
-            Question::Answer(op) => add_unmatched_of_op(op, store, lines),
+            Question::Answer(op) => add_unmatched_of_op(op, files, lines),
             Question::ChosenReport(choice)
-            | Question::ChosenSummary(choice)
-            | Question::LimitedTotals { choice, .. }
-            | Question::ChosenList { choice, .. } => add_unmatched_of_choice(choice, store, lines),
+            | Question::ChosenTotals { choice, .. }
+            | Question::ChosenList { choice, .. } => add_unmatched_of_choice(choice, files, lines),
         }
     }
 }
@@ -183,11 +181,11 @@ fn totals_text(alloc: Global, form: TotalsForm, totals: &Totals) -> Result<Bytes
 }
 
 /// Prints the list of the chosen source files in this `form`.
-fn list_text(
+fn list_text<T: Table<Global>>(
     alloc: Global,
     form: TotalsForm,
     choice: &Choice,
-    collected: &CollectedBook<TextFault>,
+    collected: &CollectedBook<T, TextFault>,
 ) -> Result<Bytes, Memory>
     ensures { IfOk result (λ text. text ≡ asked_text (ChosenList form (choice_data choice.now))
         (collected.now.book.entries ++ next_entry collected.now.book.entries 0 SummaryOp ∷ [])) }
@@ -196,20 +194,5 @@ fn list_text(
     match form {
         TotalsForm::Words => list_table(alloc, store, choice),
         TotalsForm::Json => list_json(alloc, store, choice),
-    }
-}
-
-/// Copies `choice`.
-fn copy_of(alloc: Global, choice: &Choice) -> Result<Choice, Memory>
-    ensures { IfOk result (λ copy. choice_data copy ≡ choice_data choice.now) }
-{
-    match choice {
-        Choice::All => Ok(Choice::All),
-        Choice::Extract(patterns) => Ok(Choice::Extract(patterns.copy(alloc)?)),
-        Choice::Remove(patterns) => Ok(Choice::Remove(patterns.copy(alloc)?)),
-        Choice::Filter { includes, excludes } => Ok(Choice::Filter {
-            includes: includes.copy(alloc)?,
-            excludes: excludes.copy(alloc)?,
-        }),
     }
 }

@@ -2,7 +2,7 @@
 
 use crate::block::Block;
 use crate::block_printer::print_text;
-use covnamed::Printing;
+use covreport::{Printing, Table};
 use covsession::SessionFault;
 use covstream::Sink;
 use std::alloc::{AllocError, Global};
@@ -10,13 +10,13 @@ use std::marker::Model;
 
 /// A text that is ready to be printed: all memory for printing it is reserved. Contracts see the text.
 #[derive(Drop)]
-pub(crate) struct ReadyText<'s> {
-    text: Printing<'s>,
+pub(crate) struct ReadyText<'s, T: Table<Global>> {
+    text: Printing<'s, Global, T>,
     // The empty buffer that printing uses.
     block: Block,
 }
 
-impl<'s> Model for ReadyText<'s> {
+impl<'s, T: Table<Global>> Model for ReadyText<'s, T> {
     ghost use Rattle.std.specs.Prelude.{◌≡◌, [], ℕ, List};
 
     ghost Value = { List ℕ };
@@ -26,14 +26,17 @@ impl<'s> Model for ReadyText<'s> {
     ghost invariant = { λ t. t.block ≡ [] };
 }
 
-impl<'s> ReadyText<'s> {
+impl<'s, T: Table<Global>> ReadyText<'s, T> {
     ghost use Rattle.std.specs.Prelude.{◌≡◌, ◌<◌, ◌^◌, IfOk, IfErr, OnOk, OnErr, suc};
     ghost use Rattle.std.specs.Io.KnownBytes.{Appends};
     ghost use Rattle.covsession.specs.Fault.{HasBegun};
     ghost use Rattle.covsession.specs.declared.session.fault.SessionFault.TheVariants as session_faults;
 
     /// Reserves all memory for printing `text`.
-    pub(crate) fn of(alloc: Global, text: Printing<'s>) -> Result<ReadyText<'s>, AllocError>
+    pub(crate) fn of(
+        alloc: Global,
+        text: Printing<'s, Global, T>,
+    ) -> Result<ReadyText<'s, T>, AllocError>
         ensures { IfOk result (λ ready. ready ≡ text.entry) }
     {
         let block = Block::new(alloc)?;

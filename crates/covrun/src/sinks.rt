@@ -8,8 +8,8 @@ ghost use Rattle.covsession.specs.declared.session.fault.SessionFault.TheVariant
 ghost use Rattle.covrun.specs.Streams.{CanWrite, Complains, IsSilent, PutsOut, Withholds};
 
 use crate::ready_text::ReadyText;
-use covnamed::run_session;
-use covsession::{SessionFault, put_bytes};
+use covreport::Table;
+use covsession::{SessionFault, put_bytes, run_session};
 use covstream::{Sink, Source};
 use std::alloc::Global;
 use std::marker::Model;
@@ -39,7 +39,7 @@ impl<O: Sink, E: Sink> Model for Sinks<O, E> {
 
 impl<O: Sink, E: Sink> Sinks<O, E> {
     /// Runs a session that reads `input` and writes to the two streams, and returns the exit status.
-    pub(crate) fn serve<I: Source>(&mut self, alloc: Global, input: &mut I) -> u8
+    pub(crate) fn serve<I: Source, T: Table<Global>>(&mut self, alloc: Global, input: &mut I) -> u8
         requires reads { I.reads input.old < 2 ^ 62 }
         requires failed_reads { I.failed_reads input.old < 2 ^ 62 }
         requires sinks { CanWrite self.old }
@@ -49,7 +49,7 @@ impl<O: Sink, E: Sink> Sinks<O, E> {
             (calls (I.reads input.new) (I.failed_reads input.new) self.new.failed_output)
             self.old.failed_faults self.new.failed_faults }
     {
-        run_session(alloc, input, &mut self.output, &mut self.faults)
+        run_session::<I, O, E, Global, T>(alloc, input, &mut self.output, &mut self.faults)
     }
 
     /// Writes the whole text to the output, and flushes the output.
@@ -66,7 +66,10 @@ impl<O: Sink, E: Sink> Sinks<O, E> {
     }
 
     /// Prints the text to the output, and flushes the output. Never allocates.
-    pub(crate) fn print(&mut self, text: ReadyText<'_>) -> Result<(), SessionFault>
+    pub(crate) fn print<T: Table<Global>>(
+        &mut self,
+        text: ReadyText<'_, T>,
+    ) -> Result<(), SessionFault>
         requires { self.old.failed_output < 2 ^ 62 }
         ensures written { OnOk result (PutsOut text.entry self.old self.new) }
         ensures failed { OnErr result (self.new.failed_output ≡ suc self.old.failed_output) }

@@ -1,15 +1,17 @@
 //! Finds what fails a strict run: files that aren't clean, and patterns that match no file.
 
-ghost use Rattle.std.specs.Prelude.{◌≡◌, ◌++◌, IfOk, IfErr, OnOk, IsTrue};
+ghost use Rattle.std.specs.Prelude.{◌≡◌, ◌++◌, IfOk, IfErr, OnOk, IsTrue, map};
 ghost use Rattle.std.specs.List.{flat_map};
 ghost use Rattle.covcheck.specs.SummaryLine.{summary_text};
 ghost use Rattle.covjobs.specs.InputView.{input_data};
 ghost use Rattle.covworkers.specs.Late.{IsLateOutcome};
+ghost use Rattle.covtable.specs.ValuesView.{file_totals_data};
 ghost use Rattle.covreport.specs.ChoiceView.{choice_data};
 ghost use Rattle.covbook.specs.View.{op_data};
 ghost use Rattle.covrun.specs.Files.{IsUncleanFault};
 ghost use Rattle.covrun.specs.Strict.{HoldsIn, IsStrictOutcome, is_clean as is_clean_summary, is_matched, patterns_of_choice, patterns_of_op, unmatched_line};
 
+use crate::messages::MATCHES_NO_FILE;
 use crate::text_fault::TextFault;
 use covbook::{Op, PackedRef};
 use covcheck::{Format, TextSummary, summary_line, summary_of};
@@ -18,7 +20,7 @@ use covjobs::Input;
 use covlist::put_shown_name;
 use covpacked::PackedSubmission;
 use covreport::{Choice, Patterns, matches};
-use covstore::Store;
+use covtable::FileTotals;
 use covworkers::LateFault;
 use std::alloc::Global;
 
@@ -70,63 +72,75 @@ pub(crate) fn is_clean(summary: &TextSummary<'_>) -> bool
     summary.items > 0 && summary.odd == 0 && summary.skipped == 0
 }
 
-/// Appends to `lines` a line about each pattern of `op` that matches no file of `store`.
-pub(crate) fn add_unmatched_of_op(op: &Op, store: &Store, lines: &mut Bytes) -> Result<(), Memory>
-    ensures { OnOk result (lines.new ≡ lines.old ++ flat_map (unmatched_line store.now.sections) (patterns_of_op (op_data op.now))) }
+/// Appends to `lines` a line about each pattern of `op` that matches none of `files`.
+pub(crate) fn add_unmatched_of_op(
+    op: &Op,
+    files: &[FileTotals<'_>],
+    lines: &mut Bytes,
+) -> Result<(), Memory>
+    ensures { OnOk result (lines.new ≡ lines.old ++ flat_map (unmatched_line (map file_totals_data files.now)) (patterns_of_op (op_data op.now))) }
 {
     match op {
-        Op::Extract(patterns) | Op::Remove(patterns) => add_unmatched(patterns, store, lines),
+        Op::Extract(patterns) | Op::Remove(patterns) => add_unmatched(patterns, files, lines),
         _ => Ok(()),
     }
 }
 
-/// Appends to `lines` a line about each pattern of `choice` that matches no file of `store`.
+/// Appends to `lines` a line about each pattern of `choice` that matches none of `files`.
 pub(crate) fn add_unmatched_of_choice(
     choice: &Choice,
-    store: &Store,
+    files: &[FileTotals<'_>],
     lines: &mut Bytes,
 ) -> Result<(), Memory>
-    ensures { OnOk result (lines.new ≡ lines.old ++ flat_map (unmatched_line store.now.sections) (patterns_of_choice (choice_data choice.now))) }
+    ensures { OnOk result (lines.new ≡ lines.old ++ flat_map (unmatched_line (map file_totals_data files.now)) (patterns_of_choice (choice_data choice.now))) }
 {
     match choice {
         Choice::All => Ok(()),
         Choice::Extract(patterns) | Choice::Remove(patterns) => add_unmatched(
-            patterns, store, lines,
+            patterns, files, lines,
         ),
         Choice::Filter { includes, excludes } => {
-            add_unmatched(includes, store, lines)?;
-            add_unmatched(excludes, store, lines)
+            add_unmatched(includes, files, lines)?;
+            add_unmatched(excludes, files, lines)
         }
     }
 }
 
-/// Appends to `lines` a line about each of `patterns` that matches no file of `store`.
-fn add_unmatched(patterns: &Patterns, store: &Store, lines: &mut Bytes) -> Result<(), Memory>
-    ensures { OnOk result (lines.new ≡ lines.old ++ flat_map (unmatched_line store.now.sections) patterns.now) }
+/// Appends to `lines` a line about each of `patterns` that matches none of `files`.
+fn add_unmatched(
+    patterns: &Patterns,
+    files: &[FileTotals<'_>],
+    lines: &mut Bytes,
+) -> Result<(), Memory>
+    ensures { OnOk result (lines.new ≡ lines.old ++ flat_map (unmatched_line (map file_totals_data files.now)) patterns.now) }
 {
     for pattern in patterns.get() {
-        add_if_unmatched(pattern.get(), store, lines)?;
+        add_if_unmatched(pattern.get(), files, lines)?;
     }
     Ok(())
 }
 
-/// Appends to `lines` a line about `pattern` if it matches no file of `store`.
-fn add_if_unmatched(pattern: &[u8], store: &Store, lines: &mut Bytes) -> Result<(), Memory>
-    ensures { OnOk result (lines.new ≡ lines.old ++ unmatched_line store.now.sections pattern.now) }
+/// Appends to `lines` a line about `pattern` if it matches none of `files`.
+fn add_if_unmatched(
+    pattern: &[u8],
+    files: &[FileTotals<'_>],
+    lines: &mut Bytes,
+) -> Result<(), Memory>
+    ensures { OnOk result (lines.new ≡ lines.old ++ unmatched_line (map file_totals_data files.now) pattern.now) }
 {
-    if matches_a_file(pattern, store) {
+    if matches_a_file(pattern, files) {
         return Ok(());
     }
     put_shown_name(pattern, lines)?;
-    lines.append(b": matches no file\n")?;
+    lines.append(MATCHES_NO_FILE)?;
     Ok(())
 }
 
-/// Whether `pattern` matches the path of a file of `store`.
-fn matches_a_file(pattern: &[u8], store: &Store) -> bool
-    ensures { result ≡ is_matched store.now.sections pattern.now }
+/// Whether `pattern` matches the path of one of `files`.
+fn matches_a_file(pattern: &[u8], files: &[FileTotals<'_>]) -> bool
+    ensures { result ≡ is_matched (map file_totals_data files.now) pattern.now }
 {
-    for file in store.files() {
+    for file in files {
         if matches(pattern, file.path) {
             return true;
         }

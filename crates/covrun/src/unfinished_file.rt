@@ -1,7 +1,12 @@
 //! A file of std that is written under a temporary name, beside the file that it will replace.
 
 ghost use Rattle.std.specs.Prelude.{◌≡◌, IfOk};
+ghost use Rattle.std.specs.Option.{ForSome};
+ghost use Rattle.std.specs.String.{string_bytes};
+ghost use Rattle.covrun.specs.Begun.{begun_name};
 
+use crate::begun::Begun;
+use crate::named_file::{Named, PlacedFile, Target, append_named, open_named};
 use crate::output_folder::OutputFault;
 use covstream::{Failed, FromWrite, Sink};
 use std::alloc::{AllocError, AllocGlobal};
@@ -15,31 +20,25 @@ use std::rt::Files;
 /// A file of std that isn't finished.
 #[derive(Drop)]
 pub struct UnfinishedFile<F> {
-    sink: FromWrite<F>,
-    // `None` for a device or a pipe: bytes go straight into it.
-    rename: Option<Rename>,
-}
-
-/// The temporary name of an unfinished file, and its final name.
-#[derive(Drop)]
-struct Rename {
-    from: String,
-    to: String,
+    file: Named<FromWrite<F>>,
+    // The temporary name, by which std opened the file. `None` for a device or a pipe: bytes go straight into it.
+    from: Option<String>,
+    ghost opened: { ForSome from (λ f. file.name.bytes ≡ string_bytes f) },
 }
 
 impl<F: io::Write> Sink for UnfinishedFile<F> {
-    ghost written = { λ f. ⟦<FromWrite<F> as Sink>⟧.written f.sink };
+    ghost written = { λ f. ⟦<Named<FromWrite<F>> as Sink>⟧.written f.file };
 
-    ghost held = { λ f. ⟦<FromWrite<F> as Sink>⟧.held f.sink };
+    ghost held = { λ f. ⟦<Named<FromWrite<F>> as Sink>⟧.held f.file };
 
-    ghost failed_writes = { λ f. ⟦<FromWrite<F> as Sink>⟧.failed_writes f.sink };
+    ghost failed_writes = { λ f. ⟦<Named<FromWrite<F>> as Sink>⟧.failed_writes f.file };
 
     fn write(&mut self, bytes: &[u8]) -> Result<usize, Failed> {
-        self.sink.write(bytes)
+        self.file.write(bytes)
     }
 
     fn flush(&mut self) -> Result<(), Failed> {
-        self.sink.flush()
+        self.file.flush()
     }
 }
 
@@ -48,8 +47,9 @@ impl<F: io::Write> Sink for UnfinishedFile<F> {
 pub(crate) fn begin_file<R: Files + RandomSource + AllocGlobal>(
     rt: &R,
     name: &str,
-) -> Result<UnfinishedFile<R::File>, OutputFault>
-    ensures { IfOk result (λ file. ⟦<UnfinishedFile<R::File> as Sink>⟧.failed_writes file ≡ 0) }
+) -> Result<(UnfinishedFile<R::File>, Begun), OutputFault>
+    ensures fresh { IfOk result (λ r. ⟦<UnfinishedFile<R::File> as Sink>⟧.failed_writes r.0 ≡ 0) }
+    ensures named { IfOk result (λ r. begun_name r.1 ≡ name.now) }
 {
     if name.is_empty() {
         return Err(OutputFault::Failed);
@@ -76,49 +76,44 @@ fn begin_instead<R: Files + RandomSource + AllocGlobal>(
     rt: &R,
     name: &str,
     old: &Metadata,
-) -> Result<UnfinishedFile<R::File>, OutputFault>
-    ensures { IfOk result (λ file. ⟦<UnfinishedFile<R::File> as Sink>⟧.failed_writes file ≡ 0) }
+) -> Result<(UnfinishedFile<R::File>, Begun), OutputFault>
+    ensures fresh { IfOk result (λ r. ⟦<UnfinishedFile<R::File> as Sink>⟧.failed_writes r.0 ≡ 0) }
+    ensures named { IfOk result (λ r. begun_name r.1 ≡ name.now) }
 {
-    let rename = rename_to(rt, name_behind(rt, name)?)?;
-    let file = create(rt, &rename, 0o600)?;
-    match keep_rights(rt, &rename, &file, old) {
-        Ok(()) => Ok(unfinished(file, Some(rename))),
+    let target = target_of(rt, name)?;
+    let from = name_beside(rt, target.path())?;
+    let file = create(rt, from.as_str(), 0o600)?;
+    match keep_rights(rt, from.as_str(), file.get(), old) {
+        Ok(()) => Ok((beside(file, from), Begun::Beside(target))),
         Err(error) => {
-            let _ = rt.remove_file(rename.from.as_str());
+            let _ = rt.remove_file(from.as_str());
             Err(OutputFault::from(error))
         }
     }
 }
 
-/// The name of the file that `name` leads to if it is a symbolic link, or else `name`.
-fn name_behind<R: Files + AllocGlobal>(rt: &R, name: &str) -> Result<String, OutputFault> {
+/// The path that `name` leads to if it is a symbolic link, or else `name`.
+fn target_of<R: Files + AllocGlobal>(rt: &R, name: &str) -> Result<Target, OutputFault>
+    ensures { IfOk result (λ target. string_bytes target.name ≡ name.now) }
+{
     if rt.symlink_metadata(name)?.is_symlink() {
-        Ok(rt.canonicalize(rt.alloc(), name)?.into_string())
+        Ok(Target::behind(rt, name)?)
     } else {
-        Ok(String::from_str(rt.alloc(), name)?)
+        Ok(Target::of(rt.alloc(), name)?)
     }
 }
 
-/// Gives `file`, the new file, the mode of the `old` one, and its owner and group as far as the user may set them. The new file
-/// gives its group no rights if it can't have the old group.
-fn keep_rights<R: Files>(
-    rt: &R,
-    rename: &Rename,
-    file: &R::File,
-    old: &Metadata,
-) -> io::Result<()> {
+/// Gives `file`, the new file called `from`, the mode of the `old` one, and its owner and group as far as the user may set them.
+/// The new file gives its group no rights if it can't have the old group.
+fn keep_rights<R: Files>(rt: &R, from: &str, file: &R::File, old: &Metadata) -> io::Result<()> {
     let made = file.metadata()?;
     let mut mode = old.permissions().mode() & 0o777;
-    if made.gid() != old.gid()
-        && rt
-            .lchown(rename.from.as_str(), None, Some(old.gid()))
-            .is_err()
-    {
+    if made.gid() != old.gid() && rt.lchown(from, None, Some(old.gid())).is_err() {
         mode &= 0o707;
     }
     if made.uid() != old.uid() {
         // Only root can do this. For anyone else, the file belongs to the user.
-        let _ = rt.lchown(rename.from.as_str(), Some(old.uid()), None);
+        let _ = rt.lchown(from, Some(old.uid()), None);
     }
     file.set_permissions(Permissions::from_mode(mode))
 }
@@ -127,39 +122,36 @@ fn keep_rights<R: Files>(
 fn begin_new<R: Files + RandomSource + AllocGlobal>(
     rt: &R,
     name: &str,
-) -> Result<UnfinishedFile<R::File>, OutputFault>
-    ensures { IfOk result (λ file. ⟦<UnfinishedFile<R::File> as Sink>⟧.failed_writes file ≡ 0) }
+) -> Result<(UnfinishedFile<R::File>, Begun), OutputFault>
+    ensures fresh { IfOk result (λ r. ⟦<UnfinishedFile<R::File> as Sink>⟧.failed_writes r.0 ≡ 0) }
+    ensures named { IfOk result (λ r. begun_name r.1 ≡ name.now) }
 {
     if rt.symlink_metadata(name).is_ok() {
         return Err(OutputFault::Failed);
     }
-    let rename = rename_to(rt, String::from_str(rt.alloc(), name)?)?;
-    let file = create(rt, &rename, 0o666)?;
-    Ok(unfinished(file, Some(rename)))
+    let target = Target::of(rt.alloc(), name)?;
+    let from = name_beside(rt, name)?;
+    let file = create(rt, from.as_str(), 0o666)?;
+    Ok((beside(file, from), Begun::Beside(target)))
 }
 
-/// Chooses a temporary name beside `to`, the final name.
-fn rename_to<R: RandomSource + AllocGlobal>(rt: &R, to: String) -> Result<Rename, OutputFault> {
-    let from = name_beside(rt, to.as_str())?;
-    Ok(Rename { from, to })
+/// Creates a file called `name` with this `mode`, less the umask. Fails if there is such a file.
+fn create<R: Files>(rt: &R, name: &str, mode: u32) -> io::Result<Named<R::File>>
+    ensures { IfOk result (λ file. file.name.bytes ≡ name.now) }
+{
+    let mut how = OpenOptions::new();
+    how.write(true).create_new(true).mode(mode);
+    open_named(rt, &how, name)
 }
 
-/// Creates the temporary file with this `mode`, less the umask.
-fn create<R: Files>(rt: &R, rename: &Rename, mode: u32) -> io::Result<R::File> {
-    OpenOptions::new()
-        .write(true)
-        .create_new(true)
-        .mode(mode)
-        .open(rt, rename.from.as_str())
-}
-
-/// An unfinished file without any bytes yet.
-fn unfinished<F: io::Write>(file: F, rename: Option<Rename>) -> UnfinishedFile<F>
+/// A new file without any bytes yet, whose temporary name is `from`.
+fn beside<F: io::Write>(file: Named<F>, from: String) -> UnfinishedFile<F>
+    requires { file.name.bytes ≡ string_bytes from }
     ensures { ⟦<UnfinishedFile<F> as Sink>⟧.failed_writes result ≡ 0 }
 {
     UnfinishedFile {
-        sink: FromWrite::new(file),
-        rename,
+        file: file.into_sink(),
+        from: Some(from),
     }
 }
 
@@ -176,25 +168,46 @@ fn name_beside<R: RandomSource + AllocGlobal>(rt: &R, name: &str) -> Result<Stri
 }
 
 /// Opens a device, a pipe or a stream for appending, so what was written to it before stays.
-fn begin_in_place<R: Files>(rt: &R, name: &str) -> Result<UnfinishedFile<R::File>, OutputFault>
-    ensures { IfOk result (λ file. ⟦<UnfinishedFile<R::File> as Sink>⟧.failed_writes file ≡ 0) }
+fn begin_in_place<R: Files + AllocGlobal>(
+    rt: &R,
+    name: &str,
+) -> Result<(UnfinishedFile<R::File>, Begun), OutputFault>
+    ensures fresh { IfOk result (λ r. ⟦<UnfinishedFile<R::File> as Sink>⟧.failed_writes r.0 ≡ 0) }
+    ensures named { IfOk result (λ r. begun_name r.1 ≡ name.now) }
 {
-    let file = OpenOptions::new().append(true).open(rt, name)?;
-    Ok(unfinished(file, None))
+    let called = String::from_str(rt.alloc(), name)?;
+    let (file, placed) = append_named(rt, called)?;
+    Ok((in_place(file), Begun::InPlace(placed)))
 }
 
-/// Gives `file` its name after all its bytes are on the disk, or removes the file if it can't get the name.
+/// An open device, pipe or stream, to which bytes go straight.
+fn in_place<F: io::Write>(file: Named<F>) -> UnfinishedFile<F>
+    ensures { ⟦<UnfinishedFile<F> as Sink>⟧.failed_writes result ≡ 0 }
+{
+    UnfinishedFile {
+        file: file.into_sink(),
+        from: None,
+    }
+}
+
+/// Gives `file` the name that it was begun for, after all its bytes are on the disk. Removes the file if it can't get the name.
 pub(crate) fn finish_file<R: Files>(
     rt: &R,
     file: UnfinishedFile<R::File>,
-) -> Result<(), OutputFault> {
-    let UnfinishedFile { sink, rename } = file;
-    let Some(Rename { from, to }) = rename else {
-        return Ok(());
+    begun: Begun,
+) -> Result<PlacedFile, OutputFault>
+    ensures { IfOk result (λ placed. string_bytes placed.name ≡ begun_name begun) }
+{
+    let UnfinishedFile { file, from } = file;
+    let target = match begun {
+        Begun::InPlace(placed) => return Ok(placed),
+        Begun::Beside(target) => target,
     };
-    let synced = sync_and_close(sink.into_inner());
-    match synced.and_then(|_| rt.rename(from.as_str(), to.as_str())) {
-        Ok(()) => Ok(()),
+    let Some(from) = from else {
+        return Err(OutputFault::Failed);
+    };
+    match place(rt, file, from.as_str(), target) {
+        Ok(placed) => Ok(placed),
         Err(error) => {
             let _ = rt.remove_file(from.as_str());
             Err(OutputFault::from(error))
@@ -202,16 +215,24 @@ pub(crate) fn finish_file<R: Files>(
     }
 }
 
-/// Waits until all bytes of `file` are on the disk, and closes the file. Some errors, such as a full disk, show no earlier.
-fn sync_and_close<F: OpenFile + Drop>(file: F) -> io::Result<()> {
-    file.sync_all()
+/// Waits until all bytes of `file` are on the disk, and then gives the file, whose name is `from`, the path of `target`.
+fn place<R: Files>(
+    rt: &R,
+    file: Named<FromWrite<R::File>>,
+    from: &str,
+    target: Target,
+) -> io::Result<PlacedFile>
+    requires { file.name.bytes ≡ from.now }
+    ensures { IfOk result (λ placed. placed.name ≡ target.name) }
+{
+    file.store()?.rename(rt, from, target)
 }
 
 /// Removes `file`, which isn't finished.
 pub(crate) fn abandon_file<R: Files>(rt: &R, file: UnfinishedFile<R::File>) {
-    let UnfinishedFile { sink, rename } = file;
-    drop(sink);
-    if let Some(Rename { from, .. }) = rename {
+    let UnfinishedFile { file, from } = file;
+    drop(file);
+    if let Some(from) = from {
         // The run already ends with the error of the write.
         let _ = rt.remove_file(from.as_str());
     }

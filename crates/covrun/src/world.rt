@@ -24,7 +24,7 @@ impl<P: OutputFolder, I: Source, O: Sink, E: Sink> Model for World<P, I, O, E> {
     ghost Value = { WorldData };
 
     ghost view = { λ w. record {
-      files = output_files (P.finished w.files) (P.begun w.files) (P.failed w.files);
+      files = output_files (P.finished w.files) (P.names w.files) (P.begun w.files) (P.failed w.files);
       input = source (I.left w.input) (I.reads w.input) (I.failed_reads w.input);
       sinks = w.sinks;
     } };

@@ -4,7 +4,8 @@
 ghost use Rattle.covrun.specs.Streams.{CanWrite};
 ghost use Rattle.covrun.specs.World.{CanCall};
 
-use covrun::{FromFiles, IntoFiles, OutputFolder, Sinks, World, run};
+use covrun::{Folder, FromFiles, IntoFiles, OutputFolder, Sinks, World};
+use covstore::Store;
 use covstream::{FromRead, FromWrite, Sink, Source};
 use std::alloc::Global;
 use std::process::Abort;
@@ -20,8 +21,22 @@ mod folders;
 mod outputs;
 mod printing;
 
-/// Runs the program and returns its exit status. Deliberately without an `ensures`: a test looks only at the result, and is proved
-/// faster this way.
+/// Runs the program over a `Store` and returns its exit status. Deliberately without an `ensures`: a test looks only at the result,
+/// and is proved faster this way.
+fn run<
+    R: AllocGlobal + Threads + Wait + Sync,
+    F: Folder<File: Send> + Sync,
+    P: OutputFolder,
+    I: Source,
+    O: Sink,
+    E: Sink,
+>(rt: &R, folder: &F, words: &[String], world: &mut World<P, I, O, E>) -> u8
+    requires { CanCall world.old }
+{
+    covrun::run::<R, F, P, I, O, E, Store>(rt, folder, words, world)
+}
+
+/// Runs the program on the file system and returns its exit status.
 fn called<
     R: Files<File: Send, Dir: Send> + RandomSource + AllocGlobal + Threads + Wait + Sync,
     P: OutputFolder,

@@ -5,8 +5,7 @@ use Rattle.covbook.specs.Op.{OpData, AnswerData, AcceptedAnswer, ClashAnswer, Dr
 use Rattle.covbook.specs.Step.{answers_to, answers_from}
 use Rattle.covdata.specs.Delimiters.{line_feed}
 use Rattle.covline.specs.Lines.{pieces_of}
-use Rattle.covdata.specs.declared.trace_line.LineFault.{LineFault}
-use Rattle.covdata.specs.declared.trace_line.LineFault.TheVariants.{BadLine, NumberTooLarge, EmptyPath}
+use Rattle.covdata.specs.Records.{fault_name}
 use Rattle.covdata.specs.declared.fault.ReadFault.{ReadFault}
 use Rattle.covdata.specs.declared.fault.ReadFault.TheVariants as faults
 use Rattle.covtable.specs.Table.{Table}
@@ -35,15 +34,10 @@ clash_text (RenamedAnswer sections) = []
 clash_text NoSuchTestAnswer = []
 clash_text (TextAnswer text) = []
 
-abbrev pub line_fault_name : LineFault → List ℕ
-line_fault_name BadLine = codes "BadLine"
-line_fault_name NumberTooLarge = codes "NumberTooLarge"
-line_fault_name EmptyPath = codes "EmptyPath"
-
 -- a fault's name, and its line if it has one
 abbrev pub fault_text : ReadFault → List ℕ
 fault_text faults.TooLong = codes "TooLong"
-fault_text (faults.Line at fault) = line_fault_name fault ++ codes " at " ++ decimal at
+fault_text (faults.Line at fault) = fault_name fault ++ codes " at " ++ decimal at
 fault_text (faults.Outside at) = codes "Outside at " ++ decimal at
 fault_text (faults.Inside at) = codes "Inside at " ++ decimal at
 fault_text faults.OpenEnd = codes "OpenEnd"

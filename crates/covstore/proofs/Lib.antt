@@ -84,7 +84,7 @@ pub mod PathOrder
 pub mod DropsRetain
 pub mod DropsMaps
 pub mod DropsTests
-mod DropsTotals
+mod DropsSections
 pub mod DropsKept
 pub mod WithoutState
 pub mod DropsRest

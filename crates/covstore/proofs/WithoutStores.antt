@@ -59,6 +59,14 @@ module _ (test : List ℕ) (members : ℕ) (committed : Totals) (files : List (L
       small = fewer test table stands.small;
     }
 
+  -- if these totals are those without the test of each table that the store represents, they are the totals of the files without the test
+  pub totals_told : (store : StoreData) → store.sections ≡ sections_of files → store.members ≡ members → (totals : Totals)
+      → ((table : Table) → StandsFor store table → totals ≡ totals_of (content_at (without_test test table))) → (after : List (List ℕ × FileData)) → AreWithoutTest test files after → totals ≡ totals_in after
+  totals_told store sections counted totals told after are =
+      let content = store_sections members committed files is in
+      told is.own (record { content = sections ∙ content; members = counted ∙ is.counted; agree = is.agree; few = is.few; small = is.small })
+      ∙ sym (totals_left after are is.own content)
+
   -- there are files that are these files without the test, and their totals fit in 64 bits
   pub some_left : (after : List (List ℕ × FileData)) × AreWithoutTest test files after × FitTotals (totals_in after)
   some_left = let found = files_without test files is.state.whole in (found.0, found.1, totals_fit found.0 found.1)

@@ -1,4 +1,4 @@
-//! Walks over the files of a store: drops a test, finds the files with a test, and adds up totals.
+//! Walks over the files of a store: drops a test, finds the files with a test, and adds up totals without a test.
 
 ghost use Rattle.std.specs.Prelude.{◌≡◌, ◌≢◌, ℕ, List, [], true, count_by, map, IfOk, OnErr};
 ghost use Rattle.std.specs.List.{AllByRecursion};
@@ -74,18 +74,6 @@ pub(crate) fn count_sections<A: Allocator + Copy>(
         sections += u64::from(file.get().has_test(test));
     }
     sections
-}
-
-/// The totals of all files: the sum of the committed totals of each file. Never allocates.
-pub(crate) fn add_up<A: Allocator + Copy>(files: &BTreeMap<Path<A>, Boxed<File<A>, A>, A>) -> Totals
-    requires { FitTotals (totals_in (files_committed (λ name. name.items) files.now.entries)) }
-    ensures { result ≡ totals_in (files_committed (λ name. name.items) files.now.entries) }
-{
-    let mut totals = Totals::none();
-    for (_, file) in files.iter() {
-        totals = totals.plus(file.get().committed_totals());
-    }
-    totals
 }
 
 /// The names of the files in which the test has points.

@@ -8,7 +8,8 @@ use crate::store::Store;
 use covdata::{Memory, Submission};
 use covpacked::PackedSubmission;
 use covreport::{
-    Choice, PrintedFunction, Printer, Table, most_functions_in, put_sections, without_others,
+    Choice, PrintedFunction, Printer, Table, list_files, most_functions_in, put_sections,
+    without_others,
 };
 use covtable::{FileTotals, Refuse, TableFiles, TableSection, TableSections, Totals};
 use std::alloc::Allocator;
@@ -75,16 +76,20 @@ impl<A: Allocator + Copy> Table<A> for Store<A> {
         Store::after_drop(self, test)
     }
 
-    fn drop_test(&mut self, test: &[u8]) -> u64 {
-        Store::drop_test(self, test)
+    fn drop_leaving(&mut self, test: &[u8], totals: Totals) {
+        Store::drop_leaving(self, test, totals);
     }
 
     fn totals(&self) -> Totals {
         Store::totals(self)
     }
 
+    fn files<'s>(&'s self, alloc: A) -> Result<Vec<FileTotals<'s>, A>, Memory> {
+        list_files(alloc, Store::files(self))
+    }
+
     fn chosen_totals(&self, choice: &Choice<A>) -> Totals {
-        without_others(self.files(), choice, Store::totals(self))
+        without_others(Store::files(self), choice, Store::totals(self))
     }
 
     fn most_functions(&self, choice: &Choice<A>) -> usize {

@@ -12,7 +12,7 @@ ghost use Rattle.covstore.specs.StoreSection.{HasRoomAmong, rows_of_items};
 ghost use Rattle.covstore.specs.StoreView.{AreSettledBut, files_staged, files_committed, touched_data};
 ghost use Rattle.covtable.specs.TotalsExchanged.{IsExchange};
 
-use crate::all_files::{add_up, count_sections, count_without, drop_from_files, names_with};
+use crate::all_files::{count_sections, count_without, drop_from_files, names_with};
 use crate::boxed::Boxed;
 use crate::content::Sections;
 use crate::file::File;
@@ -453,14 +453,21 @@ impl<A: Allocator + Copy> Store<A> {
         ensures sections { (table : Table) → StandsFor self.old table → result ≡ sections_of_test test.now table }
         ensures stands { (table : Table) → StandsFor self.old table → StandsFor self.new (without_test test.now table) }
     {
+        let (sections, totals) = self.after_drop(test);
+        self.drop_leaving(test, totals);
+        sections
+    }
+
+    /// Drops a test as `drop_test` does. `totals` must be those that `after_drop` returns. Never allocates.
+    pub fn drop_leaving(&mut self, test: &[u8], totals: Totals)
+        requires { (table : Table) → StandsFor self.old table → totals ≡ totals_of (content_at (without_test test.now table)) }
+        ensures { (table : Table) → StandsFor self.old table → StandsFor self.new (without_test test.now table) }
+    {
         // A plan or renaming that was never committed may have left staged values.
         self.rollback();
-        let sections = count_sections(&self.files, test);
         drop_from_files(&mut self.files, test);
-        let totals = add_up(&self.files);
         self.totals = totals;
         self.totals_after = totals;
-        sections
     }
 
     /// The totals over all files and tests. Never allocates.

@@ -125,7 +125,7 @@ fn text_of(answer: &Answer) -> &[u8] {
 
 #[test]
 fn answers_of_a_book(rt: HostRuntime) -> Result<(), Fail> {
-    let (first, second) = answers(rt.alloc(), read_trace(rt.alloc(), FIRST)?)?;
+    let (first, second) = answers::<Store>(rt.alloc(), read_trace(rt.alloc(), FIRST)?)?;
     assert!(rt;
         matches!(
             first,

@@ -16,7 +16,7 @@ use Rattle.covworkers.specs.declared.readers.Readers.TheVariants as readers
 use Rattle.covworkers.specs.declared.refused.RefusedInput.{RefusedInput}
 use Rattle.covworkers.specs.Collect.{HasRead, IsCollectedWith}
 use Rattle.covworkers.specs.Late.{IsCollectedSoFar, chances_of}
-use Rattle.covworkers.specs.Latest.{history_of}
+use Rattle.covlock.specs.Latest.{history_of}
 use Rattle.covworkers.specs.Work.{Chances, WorkerData, HaveDone, FirstAsks, kept_of, logs_in, refused_in, seats_in}
 use Rattle.covworkers.proofs.Everything.{collected_of}
 use Rattle.covworkers.proofs.LastEntry.{GoesOn, SameTexts}
@@ -224,3 +224,17 @@ pub latest_before : {F : Type 0} (latest : List (Option (List EntryData))) (work
 latest_before {F} latest workers entries same all =
     all_by_map (λ (own : List EntryData). IsPrefix own entries) (λ (w : WorkerData F). w.latest) workers
     (subst (λ (owns : List (List EntryData)). AllByRecursion (λ (own : List EntryData). IsPrefix own entries) owns) same (all_of_map (λ (own : List EntryData). IsPrefix own entries) history_of latest all))
+
+seen_short : {F : Type 0} (workers : List (WorkerData F)) (entries : List EntryData) → AllByRecursion (λ (w : WorkerData F). IsKeptWell (kept_of w)) workers
+    → AllByRecursion (λ (s : SeatData). s.seen ≤ length entries) (seats_in workers) → AllByRecursion (λ (w : WorkerData F). length w.latest ≤ length entries) workers
+seen_short [] entries kept seen = tt
+seen_short (w ∷ workers) entries kept seen = (omega (arith, kept.0.upto, seen.0), seen_short workers entries kept.1 seen.1)
+
+-- no seat has seen more than this history, so none of the latest news are of a longer one
+pub latest_short : {F : Type 0} (latest : List (Option (List EntryData))) (workers : List (WorkerData F)) (entries : List EntryData) → map history_of latest ≡ map (λ (w : WorkerData F). w.latest) workers
+    → AllByRecursion (λ (w : WorkerData F). IsKeptWell (kept_of w)) workers → AllByRecursion (λ (s : SeatData). s.seen ≤ length entries) (seats_in workers)
+    → AllByRecursion (λ (own : Option (List EntryData)). length (history_of own) ≤ length entries) latest
+latest_short {F} latest workers entries same kept seen =
+    all_by_map (λ (own : List EntryData). length own ≤ length entries) history_of latest
+    (subst (λ (owns : List (List EntryData)). AllByRecursion (λ (own : List EntryData). length own ≤ length entries) owns) (sym same)
+    (all_of_map (λ (own : List EntryData). length own ≤ length entries) (λ (w : WorkerData F). w.latest) workers (seen_short workers entries kept seen)))

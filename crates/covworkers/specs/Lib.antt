@@ -6,4 +6,3 @@ pub mod Shares
 pub mod Work
 pub mod Late
 pub mod Stops
-pub mod Latest

@@ -49,17 +49,6 @@ impl From<Memory> for IntoBookFault {
     }
 }
 
-impl From<CollectFault> for IntoBookFault {
-    ghost use Rattle.std.specs.Prelude.{◌≡◌};
-    ghost use Rattle.covworkers.specs.declared.book_fault.IntoBookFault.TheVariants as faults;
-
-    ghost from_gives = { λ fault e. e ≡ faults.Collect fault };
-
-    fn from(fault: CollectFault) -> IntoBookFault {
-        IntoBookFault::Collect(fault)
-    }
-}
-
 impl From<OpenFault> for IntoBookFault {
     ghost use Rattle.std.specs.Prelude.{◌≡◌};
     ghost use Rattle.covworkers.specs.declared.book_fault.IntoBookFault.TheVariants as faults;

@@ -83,14 +83,3 @@ impl From<BookFault> for CollectFault {
         }
     }
 }
-
-impl From<GatherFault> for CollectFault {
-    ghost use Rattle.std.specs.Prelude.{◌≡◌};
-    ghost use Rattle.covworkers.specs.declared.collect_fault.CollectFault.TheVariants as faults;
-
-    ghost from_gives = { λ fault e. e ≡ faults.Gather fault };
-
-    fn from(fault: GatherFault) -> CollectFault {
-        CollectFault::Gather(fault)
-    }
-}

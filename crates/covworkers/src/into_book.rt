@@ -29,7 +29,7 @@ pub struct CollectedBook<S: Table<Global>, F: Drop = ReadFault> {
     pub refused: Refused<Global, F>,
 }
 
-ghost use Rattle.std.specs.Prelude.{◌≡◌, ◌↔◌, ◌<◌, Err, IfOk, IfErr, IsTrue, length, map};
+ghost use Rattle.std.specs.Prelude.{◌≡◌, ◌↔◌, ◌<◌, ◌≤◌, Err, IfOk, IfErr, length, map};
 ghost use Rattle.std.specs.List.{AllByRecursion};
 ghost use Rattle.std.specs.List.Sorted.{IsPermutation, IsNonDecreasingBy};
 ghost use Rattle.covbook.specs.Kept.{IsKeptWell, IsPrefix};
@@ -38,7 +38,7 @@ ghost use Rattle.covworkers.specs.declared.book_fault.IntoBookFault.TheVariants 
 ghost use Rattle.covworkers.specs.declared.collect_fault.CollectFault.TheVariants as faults;
 ghost use Rattle.covworkers.specs.declared.refused.RefusedInput.{RefusedInput};
 ghost use Rattle.covworkers.specs.Late.{IsCollectedSoFar, IsIntoBookFault};
-ghost use Rattle.covworkers.specs.Latest.{history_of};
+ghost use Rattle.covlock.specs.Latest.{history_of};
 ghost use Rattle.covworkers.specs.Work.{kept_of, seats_in, refused_in};
 ghost use Rattle.covlock.specs.Start.{AreJobs};
 
@@ -51,8 +51,8 @@ ghost use Rattle.covlock.specs.Start.{AreJobs};
 ///
 /// Errors: those of `collect` except `Gather` and `NotLast`, and `Unread` with the first unreadable input. If that input is known,
 /// `Unread` takes precedence over `Full` and `Memory`. `Full` is returned only if all inputs were read, as at least 1,048,576
-/// submissions. No contract says that `Memory` is returned only after a failed allocation. It would also be returned if a worker knew
-/// of more entries than the closed book has, or if the book were full although fewer submissions were read. Neither happens.
+/// submissions. No contract says that `Memory` is returned only after a failed allocation. It would also be returned if the book were
+/// full although fewer submissions were read, which doesn't happen.
 pub fn collect_into_book<
     R: Threads + Wait + Sync,
     G: Gate + Sync,
@@ -116,11 +116,7 @@ fn collect_named<
         // No seat is missing: each worker returns its own.
         Err(_back) => unreachable!(),
     };
-    // Always true: the closed news are the longest, but no contract says so. The error is `Memory`, since every other error has a
-    // cause that callers can see.
-    if !are_before(latest.as_slice(), &news) {
-        return Err(IntoBookFault::Collect(CollectFault::Memory));
-    }
+    are_before(latest.as_slice(), &news);
     if book.is_full() {
         return Err(IntoBookFault::Collect(CollectFault::Full));
     }
@@ -154,28 +150,26 @@ fn hand_in_news<L: Name, F: Drop>(
     Ok((seats, latest, refused))
 }
 
-/// Whether each history in `latest` is a prefix of the history of `news`.
-fn are_before<L: Name>(latest: &[Option<News<L>>], news: &News<L>) -> bool
-    ensures { IsTrue result ↔ AllByRecursion (λ own. IsPrefix (history_of own) news.now) latest.now }
+/// Proof only: each history in `latest` is a prefix of the history of `news`, since none is longer.
+fn are_before<L: Name>(latest: &[Option<News<L>>], news: &News<L>)
+    requires { AllByRecursion (λ own. length (history_of own) ≤ length news.now) latest.now }
+    ensures { AllByRecursion (λ own. IsPrefix (history_of own) news.now) latest.now }
 {
     for own in latest {
-        if !is_before(own, news) {
-            return false;
-        }
+        is_before(own, news);
     }
-    true
 }
 
-/// Whether the history of `latest` is a prefix of the history of `news`. `None` stands for the empty history.
-fn is_before<L: Name>(latest: &Option<News<L>>, news: &News<L>) -> bool
-    ensures { IsTrue result ↔ IsPrefix (history_of latest.now) news.now }
+/// Proof only: the history of `latest` is a prefix of the history of `news`, since it isn't longer. `None` stands for the empty
+/// history.
+fn is_before<L: Name>(latest: &Option<News<L>>, news: &News<L>)
+    requires { length (history_of latest.now) ≤ length news.now }
+    ensures { IsPrefix (history_of latest.now) news.now }
 {
     match latest {
         Some(latest) => {
-            // Proof only: one of the two histories is a prefix of the other.
-            let _longer = latest.longer(news);
-            latest.reading().upto <= news.reading().upto
+            latest.longer(news);
         }
-        None => true,
+        None => {}
     }
 }

@@ -11,7 +11,7 @@ use crate::shares::Placed;
 use crate::stop::{Refusal, Stop};
 use covbook::{BookFault, Entry, JobLog, Keep, Op, Readings, Receipt, Receipts};
 use covdata::{Memory, ReadFault};
-use covlock::{Done, Live, Name, News, Seat, Shared};
+use covlock::{Done, Live, Name, News, Seat, Shared, later};
 use covreport::Table;
 use std::alloc::{Allocator, Global};
 use std::marker::Model;
@@ -40,7 +40,7 @@ impl<L: Name, A: Allocator, P: Keep<Of = Receipt<A>>, F: Drop> Model for Worker<
     ghost use Rattle.std.specs.Prelude.{[], is_some, map};
     ghost use Rattle.covbook.specs.EntryView.{receipt_data};
     ghost use Rattle.covbook.specs.Kept.{IsKept};
-    ghost use Rattle.covworkers.specs.Latest.{history_of};
+    ghost use Rattle.covlock.specs.Latest.{history_of};
     ghost use Rattle.covworkers.specs.Work.{WorkerData};
 
     ghost Value = { WorkerData F };
@@ -242,9 +242,7 @@ impl<L: Name, A: Allocator + Copy, P: Keep<Of = Receipt<A>>, F: Drop> Worker<L, 
     }
 }
 
-ghost use Rattle.std.specs.Prelude.{◌≡◌, ◌<◌, IfOk, OnOk, length};
-ghost use Rattle.covbook.specs.Kept.{IsPrefix};
-ghost use Rattle.covworkers.specs.Latest.{history_of};
+ghost use Rattle.std.specs.Prelude.{◌≡◌, ◌<◌, IfOk, OnOk};
 ghost use Rattle.covworkers.specs.Work.{ReadsOnce};
 
 /// Appends one reading of `live`, which learns the news first.
@@ -259,22 +257,10 @@ fn read_once<L: Name, A: Allocator>(
     readings.push(live.totals())
 }
 
-/// Returns a copy of `news`, whose history must be longer than that of `latest`. The longer history extends the shorter one.
-fn later<L: Name>(latest: &Option<News<L>>, news: &News<L>) -> News<L>
-    requires { length (history_of latest.now) < length news.now }
-    ensures same { result ≡ news.now }
-    ensures onward { IsPrefix (history_of latest.now) result }
-{
-    match latest {
-        Some(latest) => latest.longer(news),
-        None => news.copy(),
-    }
-}
-
 impl<L: Name, A: Allocator, P: Keep<Of = Receipt<A>>, F: Drop> Worker<L, A, P, F> {
     ghost use Rattle.std.specs.Prelude.{◌≡◌, length};
     ghost use Rattle.covbook.specs.Kept.{IsKeptWell};
-    ghost use Rattle.covworkers.specs.Latest.{history_of};
+    ghost use Rattle.covlock.specs.Latest.{history_of};
     ghost use Rattle.covworkers.specs.Work.{kept_of};
 
     /// How many submissions the job has made: one for each receipt.

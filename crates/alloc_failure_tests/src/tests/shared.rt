@@ -9,8 +9,9 @@ use super::wrappers::op_of;
 use bumpalo::Bump;
 use covbook::{BookFault, Entries, Op};
 use covdata::Memory;
-use covjobs::{Done, Live, Name, OpenFault, ReaderFault, Seat, Seats, Start};
-use covnamed::{Shared, open_book};
+use covjobs::{Done, Live, Name, OpenFault, ReaderFault, Seat, Seats, Shared, Start, open_book};
+use covreport::Table;
+use covstore::Store;
 use covtable::Totals;
 use std::alloc::Allocator;
 use std::marker::Brand;
@@ -22,38 +23,38 @@ fn start<A: Allocator + Copy>(alloc: A, jobs: u32) -> Result<Start<A>, OpenFault
     Start::new(alloc, jobs)
 }
 
-fn open<L: Name, A: Allocator + Copy>(
+fn open<L: Name, A: Allocator + Copy, T: Table<A>>(
     alloc: A,
     start: Start<A>,
-) -> Result<(Shared<L, A>, Seats<L, A>), Memory>
+) -> Result<(Shared<L, A, T>, Seats<L, A>), Memory>
     requires name { start.name ≡ L.name }
     requires jobs { start.jobs ≡ L.parts }
     requires book { start.book ≡ L.book }
 {
-    open_book::<L, A>(alloc, start)
+    open_book::<L, A, T>(alloc, start)
 }
 
-fn perform<L: Name, A: Allocator + Copy, R: Wait>(
+fn perform<L: Name, A: Allocator + Copy, R: Wait, T: Table<A>>(
     rt: &R,
     alloc: A,
-    book: &Shared<L, A>,
+    book: &Shared<L, A, T>,
     seat: &mut Seat<L>,
     op: &Op<A>,
 ) -> Result<Done<L, A>, BookFault> {
     book.perform(rt, alloc, seat, op)
 }
 
-fn reader<L: Name, A: Allocator + Copy, R: Wait>(
+fn reader<L: Name, A: Allocator + Copy, R: Wait, T: Table<A>>(
     rt: &R,
-    book: &Shared<L, A>,
+    book: &Shared<L, A, T>,
 ) -> Result<Live<L, A>, ReaderFault> {
     book.reader(rt)
 }
 
 /// Closes the book with all its seats, and returns the book's history.
-fn history_of<L: Name, A: Allocator + Copy, R: Wait + Abort>(
+fn history_of<L: Name, A: Allocator + Copy, R: Wait + Abort, T: Table<A>>(
     rt: &R,
-    book: Shared<L, A>,
+    book: Shared<L, A, T>,
     seats: Vec<Seat<L>, A>,
 ) -> Entries<A> {
     match book.close(rt, Seats::of(seats)) {
@@ -81,12 +82,16 @@ fn check_seat<L: Name>(rt: &impl Abort, seat: &Seat<L>, calls: u64) {
 
 /// Opens a book, and returns whether that succeeded. An open book must have three seats, no entry, and a reader that reports no
 /// entry.
-fn opens<L: Name, A: Allocator + Copy, R: Wait + Abort>(rt: &R, alloc: A, start: Start<A>) -> bool
+fn opens<L: Name, A: Allocator + Copy, R: Wait + Abort, T: Table<A>>(
+    rt: &R,
+    alloc: A,
+    start: Start<A>,
+) -> bool
     requires name { start.name ≡ L.name }
     requires jobs { start.jobs ≡ L.parts }
     requires book { start.book ≡ L.book }
 {
-    let Ok((book, seats)) = open::<L, A>(alloc, start) else {
+    let Ok((book, seats)) = open::<L, A, T>(alloc, start) else {
         return false;
     };
     assert_eq!(rt; seats.get().len(), 3);
@@ -98,7 +103,7 @@ fn opens<L: Name, A: Allocator + Copy, R: Wait + Abort>(rt: &R, alloc: A, start:
 
 /// Opens a new book for three jobs, and returns whether that succeeded. Making the book's `Start` never allocates.
 fn opens_anew<A: Allocator + Copy>(rt: &(impl Wait + Abort), alloc: A) -> bool {
-    opens::<Brand, A, _>(rt, alloc, made(rt, start(alloc, 3)))
+    opens::<Brand, A, _, Store<A>>(rt, alloc, made(rt, start(alloc, 3)))
 }
 
 /// Whether a book can't be opened with a capacity of `room`. A failure drops the book's `Start`, so the second try, with ample
@@ -137,7 +142,7 @@ pub(super) enum Use<'a> {
 }
 
 /// Opens the book and uses it as `tried` says. Returns whether an allocation failed.
-fn uses<L: Name, A: Allocator + Copy, R: Wait + Abort>(
+fn uses<L: Name, A: Allocator + Copy, R: Wait + Abort, T: Table<A>>(
     rt: &R,
     alloc: A,
     start: Start<A>,
@@ -147,7 +152,7 @@ fn uses<L: Name, A: Allocator + Copy, R: Wait + Abort>(
     requires jobs { start.jobs ≡ L.parts }
     requires book { start.book ≡ L.book }
 {
-    let (book, seats) = made(rt, open::<L, A>(alloc, start));
+    let (book, seats) = made(rt, open::<L, A, T>(alloc, start));
     match tried.used {
         Use::Perform(step) => performs(rt, alloc, book, seats, tried, step),
         Use::Read => reads(rt, &book, tried),
@@ -155,19 +160,29 @@ fn uses<L: Name, A: Allocator + Copy, R: Wait + Abort>(
     }
 }
 
+/// Like `uses`, with a new book over a `Store`.
+fn uses_store<A: Allocator + Copy, R: Wait + Abort>(
+    rt: &R,
+    alloc: A,
+    jobs: u32,
+    tried: Narrow<'_>,
+) -> bool {
+    uses::<Brand, A, R, Store<A>>(rt, alloc, made(rt, start(alloc, jobs)), tried)
+}
+
 /// Like `uses`, with a new book: one with nine jobs for `HandIn`, otherwise one with one job.
 fn uses_anew<R: Wait + Abort>(rt: &R, heap: &Bump, room: usize, used: Use<'_>) -> bool {
     let jobs = if matches!(used, Use::HandIn) { 9 } else { 1 };
     let tried = Narrow { heap, room, used };
-    uses::<Brand, &Bump, R>(rt, heap, made(rt, start(heap, jobs)), tried)
+    uses_store(rt, heap, jobs, tried)
 }
 
 /// Performs the step `step` in a book with one submission and a reader. Checks the history at the end. Returns whether an
 /// allocation failed.
-fn performs<L: Name, A: Allocator + Copy, R: Wait + Abort>(
+fn performs<L: Name, A: Allocator + Copy, R: Wait + Abort, T: Table<A>>(
     rt: &R,
     alloc: A,
-    book: Shared<L, A>,
+    book: Shared<L, A, T>,
     seats: Seats<L, A>,
     tried: Narrow<'_>,
     step: Step<'_>,
@@ -184,45 +199,73 @@ fn performs<L: Name, A: Allocator + Copy, R: Wait + Abort>(
     is_refused
 }
 
-/// Submits a text, and then tries the operation of `step` with the limited capacity. Returns whether an allocation failed.
-fn asks<L: Name, A: Allocator + Copy, R: Wait + Abort>(
+/// Submits a text, and returns the totals after it.
+fn begins<L: Name, A: Allocator + Copy, R: Wait + Abort, T: Table<A>>(
     rt: &R,
     alloc: A,
-    book: &Shared<L, A>,
+    book: &Shared<L, A, T>,
+    seat: &mut Seat<L>,
+) -> Totals {
+    let op = op_of(rt, alloc, BEGUN.asked);
+    made(rt, perform(rt, alloc, book, seat, &op))
+        .news
+        .reading()
+        .totals
+}
+
+/// Performs the operation with the limited capacity.
+fn perform_narrowly<L: Name, A: Allocator + Copy, R: Wait + Abort, T: Table<A>>(
+    rt: &R,
+    alloc: A,
+    book: &Shared<L, A, T>,
+    seat: &mut Seat<L>,
+    op: &Op<A>,
+    tried: Narrow<'_>,
+) -> Result<Done<L, A>, BookFault> {
+    narrow(rt, tried.heap, tried.room);
+    let done = perform(rt, alloc, book, seat, op);
+    widen(tried.heap);
+    done
+}
+
+/// Submits a text, and then tries the operation of `step` with the limited capacity. Returns whether an allocation failed.
+fn asks<L: Name, A: Allocator + Copy, R: Wait + Abort, T: Table<A>>(
+    rt: &R,
+    alloc: A,
+    book: &Shared<L, A, T>,
     seat: &mut Seat<L>,
     tried: Narrow<'_>,
     step: Step<'_>,
 ) -> bool {
-    let begun = op_of(rt, alloc, BEGUN.asked);
-    let begun = made(rt, perform(rt, alloc, book, seat, &begun));
-    let totals = begun.news.reading().totals;
+    let totals = begins(rt, alloc, book, seat);
     let mut live = made(rt, reader(rt, book));
     let op = op_of(rt, alloc, step.asked);
-    narrow(rt, tried.heap, tried.room);
-    let first = perform(rt, alloc, book, seat, &op);
-    widen(tried.heap);
-    let (done, is_refused) = match first {
-        Ok(done) => (done, false),
+    match perform_narrowly(rt, alloc, book, seat, &op, tried) {
+        Ok(done) => {
+            check_done(rt, alloc, seat, &done, &mut live, step);
+            false
+        }
         Err(fault) => {
             assert_eq!(rt; fault, BookFault::Memory);
             check_seat(rt, seat, 1);
             check_live(rt, &mut live, 1, totals);
-            (made(rt, perform(rt, alloc, book, seat, &op)), true)
+            let done = made(rt, perform(rt, alloc, book, seat, &op));
+            check_done(rt, alloc, seat, &done, &mut live, step);
+            true
         }
-    };
-    check_seat(rt, seat, 2);
-    check_done(rt, alloc, &done, &mut live, step);
-    is_refused
+    }
 }
 
-/// Checks the second call's receipt, by `check_told`, and that the totals after the call are published.
+/// Checks the seat after its second call, the call's receipt, by `check_told`, and that the totals after the call are published.
 fn check_done<L: Name, A: Allocator + Copy>(
     rt: &impl Abort,
     alloc: A,
+    seat: &Seat<L>,
     done: &Done<L, A>,
     live: &mut Live<L, A>,
     step: Step<'_>,
 ) {
+    check_seat(rt, seat, 2);
     let reading = done.news.reading();
     assert_eq!(rt; (done.receipt.place, reading.upto), (1, 2));
     check_told(
@@ -237,9 +280,9 @@ fn check_done<L: Name, A: Allocator + Copy>(
 }
 
 /// Makes a reader with the limited capacity, and returns whether that failed.
-fn reads<L: Name, A: Allocator + Copy, R: Wait + Abort>(
+fn reads<L: Name, A: Allocator + Copy, R: Wait + Abort, T: Table<A>>(
     rt: &R,
-    book: &Shared<L, A>,
+    book: &Shared<L, A, T>,
     tried: Narrow<'_>,
 ) -> bool {
     narrow(rt, tried.heap, tried.room);

@@ -5,14 +5,15 @@ use super::made;
 use super::said::{BEGUN, STEPS, Step, check_entry, check_told};
 use super::wrappers::op_of;
 use bumpalo::Bump;
-use covbook::{BookFault, Op, Receipt};
-use covnamed::Book;
+use covbook::{Book, BookFault, Op, Receipt};
+use covreport::Table;
+use covstore::Store;
 use std::alloc::Allocator;
 use std::process::Abort;
 use std::test::*;
 
 /// A book with the step `BEGUN`, of job 3.
-fn begun<A: Allocator + Copy>(rt: &impl Abort, alloc: A) -> Book<A> {
+fn begun<A: Allocator + Copy, T: Table<A>>(rt: &impl Abort, alloc: A) -> Book<A, T> {
     let mut book = Book::new(alloc);
     let op = op_of(rt, alloc, BEGUN.asked);
     made(rt, taken(alloc, &mut book, 3, &op, false));
@@ -20,9 +21,9 @@ fn begun<A: Allocator + Copy>(rt: &impl Abort, alloc: A) -> Book<A> {
 }
 
 /// Performs the step `op` as `job`, in one call or in two halves.
-fn taken<A: Allocator + Copy>(
+fn taken<A: Allocator + Copy, T: Table<A>>(
     alloc: A,
-    book: &mut Book<A>,
+    book: &mut Book<A, T>,
     job: u32,
     op: &Op<A>,
     in_halves: bool,
@@ -37,10 +38,10 @@ fn taken<A: Allocator + Copy>(
 
 /// Checks that the book has `entries` entries, and checks the last one by `check_entry`. The last entry's totals must be the
 /// book's.
-fn check_book<A: Allocator + Copy>(
+fn check_book<A: Allocator + Copy, T: Table<A>>(
     rt: &impl Abort,
     alloc: A,
-    book: &Book<A>,
+    book: &Book<A, T>,
     entries: usize,
     job: u32,
     step: Step<'_>,
@@ -59,12 +60,26 @@ struct Tried<'a> {
     in_halves: bool,
 }
 
-/// Performs the step `op`, which is that of `tried`, as job 4 in the book of `begun`, and checks the result. Returns whether an
-/// allocation failed. Leaves the heap with ample capacity.
-fn is_step_refused<A: Allocator + Copy>(
+/// Checks the receipt of the second step of the book, and the book after it.
+fn check_receipt<A: Allocator + Copy, T: Table<A>>(
     rt: &impl Abort,
     alloc: A,
-    book: &mut Book<A>,
+    book: &Book<A, T>,
+    receipt: &Receipt<A>,
+    step: Step<'_>,
+) {
+    assert_eq!(rt; receipt.place, 1);
+    let totals = book.totals();
+    check_told(rt, alloc, &receipt.op, &receipt.answer, totals, step);
+    check_book(rt, alloc, book, 2, 4, step);
+}
+
+/// Performs the step `op`, which is that of `tried`, as job 4 in the book of `begun`, and checks the result. Returns whether an
+/// allocation failed. Leaves the heap with ample capacity.
+fn is_step_refused<A: Allocator + Copy, T: Table<A>>(
+    rt: &impl Abort,
+    alloc: A,
+    book: &mut Book<A, T>,
     op: &Op<A>,
     tried: Tried<'_>,
 ) -> bool {
@@ -72,16 +87,7 @@ fn is_step_refused<A: Allocator + Copy>(
     widen(tried.heap);
     match taken {
         Ok(receipt) => {
-            assert_eq!(rt; receipt.place, 1);
-            check_told(
-                rt,
-                alloc,
-                &receipt.op,
-                &receipt.answer,
-                book.totals(),
-                tried.step,
-            );
-            check_book(rt, alloc, book, 2, 4, tried.step);
+            check_receipt(rt, alloc, book, &receipt, tried.step);
             false
         }
         Err(fault) => {
@@ -93,13 +99,13 @@ fn is_step_refused<A: Allocator + Copy>(
 }
 
 /// Performs the step in the book of `begun` with a capacity of `room`, and returns whether an allocation failed.
-fn is_refused_in<A: Allocator + Copy>(
+fn is_refused_in<A: Allocator + Copy, T: Table<A>>(
     rt: &impl Abort,
     alloc: A,
     room: usize,
     tried: Tried<'_>,
 ) -> bool {
-    let mut book = begun(rt, alloc);
+    let mut book: Book<A, T> = begun(rt, alloc);
     let op = op_of(rt, alloc, tried.step.asked);
     narrow(rt, tried.heap, room);
     let is_refused = is_step_refused(rt, alloc, &mut book, &op, tried);
@@ -112,7 +118,17 @@ fn is_refused_in<A: Allocator + Copy>(
     is_refused
 }
 
-/// `is_refused_in` with the heap as allocator.
+/// `is_refused_in` with a book over a `Store`.
+fn is_refused_in_store<A: Allocator + Copy>(
+    rt: &impl Abort,
+    alloc: A,
+    room: usize,
+    tried: Tried<'_>,
+) -> bool {
+    is_refused_in::<A, Store<A>>(rt, alloc, room, tried)
+}
+
+/// `is_refused_in_store` with the heap as allocator.
 pub(super) fn is_refused(
     rt: &impl Abort,
     heap: &Bump,
@@ -120,7 +136,7 @@ pub(super) fn is_refused(
     step: Step<'_>,
     in_halves: bool,
 ) -> bool {
-    is_refused_in(
+    is_refused_in_store(
         rt,
         heap,
         room,

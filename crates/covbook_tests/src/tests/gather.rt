@@ -3,9 +3,13 @@
 use super::steps::{Step, check_steps};
 use super::words::{answer_of, number_of};
 use super::wrappers::{copied_answer, copied_op, entries, gathered};
-use covbook::{Answer, Entry, GatherFault, JobLog, Logs, Reading, Readings, Receipt, Receipts};
-use covnamed::Book;
+use covbook::{
+    Answer, Book, Entry, GatherFault, JobLog, Logs, Reading, Readings, Receipt, Receipts,
+};
+use covreport::Table;
+use covstore::Store;
 use covtable::Totals;
+use std::alloc::Global;
 use std::process::Abort;
 use std::test::*;
 
@@ -283,20 +287,29 @@ const EXAMPLES: &[Example<'static>] = &[
 ];
 
 /// Performs the steps in a new book, and checks examples for its history.
-fn check_whole(
+fn check_whole<T: Table<Global>>(
     rt: &(impl Abort + AllocGlobal),
     steps: &[Step<'_>],
     examples: &[Example<'_>],
 ) -> Result<(), Fail> {
-    let mut book = Book::new(rt.alloc());
+    let mut book: Book<Global, T> = Book::new(rt.alloc());
     check_steps(rt, &mut book, steps)?;
     check_history(rt, entries(&book), entries(&book), examples);
     Ok(())
 }
 
+/// `check_whole` with a book over a `Store`.
+fn check_in_store(
+    rt: &(impl Abort + AllocGlobal),
+    steps: &[Step<'_>],
+    examples: &[Example<'_>],
+) -> Result<(), Fail> {
+    check_whole::<Store>(rt, steps, examples)
+}
+
 #[test]
 fn what_two_jobs_kept(rt: HostRuntime) -> Result<(), Fail> {
-    check_whole(&rt, SIX_CALLS, EXAMPLES)
+    check_in_store(&rt, SIX_CALLS, EXAMPLES)
 }
 
 /// Like `SIX_CALLS`, but job 1 renames the test that both jobs submit, instead of dropping an unknown test.
@@ -337,7 +350,7 @@ const OF_A_RENAME: &[Example<'static>] = &[
 /// A rename has an entry and a receipt like any other operation, and doesn't change the totals.
 #[test]
 fn a_rename_among_six_calls(rt: HostRuntime) -> Result<(), Fail> {
-    check_whole(&rt, A_RENAME, OF_A_RENAME)
+    check_in_store(&rt, A_RENAME, OF_A_RENAME)
 }
 
 /// Examples for `SIX_CALLS` without the last entry.
@@ -371,12 +384,17 @@ fn check_shorter(rt: &(impl Abort + AllocGlobal), entries: &[Entry]) {
     check_history(rt, entries, &[], NO_ENTRIES);
 }
 
+/// Performs `SIX_CALLS` in a new book, and checks examples for shorter histories.
+fn check_shortened<T: Table<Global>>(rt: &(impl Abort + AllocGlobal)) -> Result<(), Fail> {
+    let mut book: Book<Global, T> = Book::new(rt.alloc());
+    check_steps(rt, &mut book, SIX_CALLS)?;
+    check_shorter(rt, entries(&book));
+    Ok(())
+}
+
 #[test]
 fn a_shorter_history(rt: HostRuntime) -> Result<(), Fail> {
-    let mut book = Book::new(rt.alloc());
-    check_steps(&rt, &mut book, SIX_CALLS)?;
-    check_shorter(&rt, entries(&book));
-    Ok(())
+    check_shortened::<Store>(&rt)
 }
 
 /// All entries but the last one.

@@ -3,8 +3,9 @@
 use super::steps::{Step, check_lines, check_steps};
 use super::words::op_of;
 use super::wrappers::{entries, ready, step, totals};
-use covbook::{BookFault, Op};
-use covnamed::{Book, Ready};
+use covbook::{Book, BookFault, Op, Ready};
+use covreport::Table;
+use covstore::Store;
 use std::alloc::Global;
 use std::process::Abort;
 use std::test::*;
@@ -52,8 +53,11 @@ const PACKED: &[Step<'static>] = &[
 ];
 
 /// Performs the steps in a new book, which has no lines, and checks each step.
-fn check_new(rt: &(impl Abort + AllocGlobal), steps: &[Step<'_>]) -> Result<(), Fail> {
-    let mut book = Book::new(rt.alloc());
+fn check_new<T: Table<Global>>(
+    rt: &(impl Abort + AllocGlobal),
+    steps: &[Step<'_>],
+) -> Result<(), Fail> {
+    let mut book: Book<Global, T> = Book::new(rt.alloc());
     check_lines(rt, &totals(&book), 0, 0);
     check_steps(rt, &mut book, steps)
 }
@@ -61,23 +65,28 @@ fn check_new(rt: &(impl Abort + AllocGlobal), steps: &[Step<'_>]) -> Result<(), 
 #[test]
 fn histories(rt: HostRuntime) -> Result<(), Fail> {
     for steps in [TEXTS, CLASHES, DROPS, PACKED] {
-        check_new(&rt, steps)?;
+        check_new::<Store>(&rt, steps)?;
     }
     Ok(())
 }
 
 /// Checks that the entry of a prepared step is job 3's, that the entry has the totals after the step, and how many lines these
 /// have found and hit.
-fn check_ready(rt: &impl Abort, ready: &Ready, found: u64, hit: u64) {
+fn check_ready<P: Drop, R: Drop>(
+    rt: &impl Abort,
+    ready: &Ready<Global, P, R>,
+    found: u64,
+    hit: u64,
+) {
     let entry = ready.entry();
     assert!(rt; entry.job == 3 && entry.after == ready.after());
     check_lines(rt, &entry.after, found, hit);
 }
 
 /// Prepares a step of job 3, checks it, and drops it.
-fn check_prepared(
+fn check_prepared<T: Table<Global>>(
     rt: &(impl Abort + AllocGlobal),
-    book: &mut Book,
+    book: &mut Book<Global, T>,
     words: &[u8],
     found: u64,
     hit: u64,
@@ -90,37 +99,51 @@ fn check_prepared(
     Ok(())
 }
 
-/// A step can be done in two halves. Without the second half, the step has no effect.
-#[test]
-fn halves_of_a_step(rt: HostRuntime) -> Result<(), Fail> {
-    let mut book = Book::new(rt.alloc());
-    check_prepared(&rt, &mut book, b"submit DA:1,2;DA:2,0", 2, 1)?;
+/// Prepares and drops a step before and after a step in two halves.
+fn check_halves<T: Table<Global>>(rt: &(impl Abort + AllocGlobal)) -> Result<(), Fail> {
+    let mut book: Book<Global, T> = Book::new(rt.alloc());
+    check_prepared(rt, &mut book, b"submit DA:1,2;DA:2,0", 2, 1)?;
     check_steps(
-        &rt,
+        rt,
         &mut book,
         &[(8, b"submit DA:1,2;DA:2,0", b"a120", 2, 1)],
     )?;
-    check_prepared(&rt, &mut book, b"packed DA:2,1;DA:3,0", 3, 2)?;
-    check_steps(&rt, &mut book, &[(0, b"report", REPORT, 2, 1)])
+    check_prepared(rt, &mut book, b"packed DA:2,1;DA:3,0", 3, 2)?;
+    check_steps(rt, &mut book, &[(0, b"report", REPORT, 2, 1)])
+}
+
+/// A step can be done in two halves. Without the second half, the step has no effect.
+#[test]
+fn halves_of_a_step(rt: HostRuntime) -> Result<(), Fail> {
+    check_halves::<Store>(&rt)
 }
 
 /// Whether the book's next step, a summary, gets this index or this error.
-fn is_next(alloc: Global, book: &mut Book, wanted: Result<u64, BookFault>) -> bool {
+fn is_next<T: Table<Global>>(
+    alloc: Global,
+    book: &mut Book<Global, T>,
+    wanted: Result<u64, BookFault>,
+) -> bool {
     match step(alloc, book, 0, &Op::Summary) {
         Ok(receipt) => wanted == Ok(receipt.place),
         Err(fault) => wanted == Err(fault),
     }
 }
 
-/// A history can have 1,048,576 entries and no more.
-#[test]
-fn a_full_book(rt: HostRuntime) {
-    let mut book = Book::new(rt.alloc());
+/// Fills a new book, and checks that its next step fails.
+fn check_full<T: Table<Global>>(rt: &(impl Abort + AllocGlobal)) {
+    let mut book: Book<Global, T> = Book::new(rt.alloc());
     for place in 0..1_048_576u64 {
         assert!(rt; is_next(rt.alloc(), &mut book, Ok(place)));
     }
     assert!(rt; is_next(rt.alloc(), &mut book, Err(BookFault::Full)));
     assert!(rt; entries(&book).len() == 1_048_576);
+}
+
+/// A history can have 1,048,576 entries and no more.
+#[test]
+fn a_full_book(rt: HostRuntime) {
+    check_full::<Store>(&rt);
 }
 
 #[test]

@@ -3,8 +3,9 @@
 
 use super::steps::check_answer;
 use super::words::op_of;
-use covbook::{Answered, Op};
-use covnamed::Book;
+use covbook::{Answered, Book, Op};
+use covreport::Table;
+use covstore::Store;
 use std::alloc::Global;
 use std::process::Abort;
 use std::test::*;
@@ -19,9 +20,9 @@ const STEPS: &[(&[u8], &[u8])] = &[
 ];
 
 /// Performs a step, and checks its answer.
-fn check_step(
+fn check_step<T: Table<Global>>(
     rt: &(impl Abort + AllocGlobal),
-    book: &mut Book<Global, Answered>,
+    book: &mut Book<Global, T, Answered>,
     asked: &[u8],
     answered: &[u8],
 ) -> Result<(), Fail> {
@@ -34,7 +35,10 @@ fn check_step(
 }
 
 /// Checks the report that the book prints without a step.
-fn check_report(rt: &(impl Abort + AllocGlobal), book: &Book<Global, Answered>) {
+fn check_report<T: Table<Global>>(
+    rt: &(impl Abort + AllocGlobal),
+    book: &Book<Global, T, Answered>,
+) {
     match book.text_of(rt.alloc(), &Op::Report) {
         Ok(text) => assert!(rt; text.get() == REPORT),
         Err(_refused) => panic!(rt; "no memory for the report"),
@@ -42,20 +46,25 @@ fn check_report(rt: &(impl Abort + AllocGlobal), book: &Book<Global, Answered>) 
 }
 
 /// Checks the stored answers. As many answers are stored as the book has entries.
-fn check_kept(rt: &(impl Abort + AllocGlobal), book: &Book<Global, Answered>) {
+fn check_kept<T: Table<Global>>(rt: &(impl Abort + AllocGlobal), book: &Book<Global, T, Answered>) {
     assert!(rt; book.kept().len() == STEPS.len() && book.len() == 3);
     for (kept, (_asked, answered)) in book.kept().iter().zip(STEPS.iter()) {
         check_answer(rt, &kept.answer, answered);
     }
 }
 
+/// Performs `STEPS` in a new book that stores only the answers, and checks its report and the stored answers.
+fn check_keeping<T: Table<Global>>(rt: &(impl Abort + AllocGlobal)) -> Result<(), Fail> {
+    let mut book: Book<Global, T, Answered> = Book::keeping(rt.alloc());
+    for (asked, answered) in STEPS {
+        check_step(rt, &mut book, asked, answered)?;
+    }
+    check_report(rt, &book);
+    check_kept(rt, &book);
+    Ok(())
+}
+
 #[test]
 fn a_book_that_keeps_answers(rt: HostRuntime) -> Result<(), Fail> {
-    let mut book: Book<Global, Answered> = Book::keeping(rt.alloc());
-    for (asked, answered) in STEPS {
-        check_step(&rt, &mut book, asked, answered)?;
-    }
-    check_report(&rt, &book);
-    check_kept(&rt, &book);
-    Ok(())
+    check_keeping::<Store>(&rt)
 }

@@ -2,9 +2,10 @@
 
 use super::words::{answer_of, op_of};
 use super::wrappers::{entries, is_same_answer, is_same_op, taken, totals};
-use covbook::{Answer, Entry, Op, Receipt};
-use covnamed::Book;
+use covbook::{Answer, Book, Entry, Op, Receipt};
+use covreport::Table;
 use covtable::Totals;
+use std::alloc::Global;
 use std::process::Abort;
 use std::test::*;
 
@@ -40,14 +41,19 @@ fn check_last(rt: &impl Abort, entries: &[Entry], totals: &Totals) {
 }
 
 /// Checks how many lines are found and hit in the book's totals, which the last entry has too.
-fn check_totals(rt: &impl Abort, book: &Book, found: u64, hit: u64) {
+fn check_totals<T: Table<Global>>(rt: &impl Abort, book: &Book<Global, T>, found: u64, hit: u64) {
     let now = totals(book);
     check_lines(rt, &now, found, hit);
     check_last(rt, entries(book), &now);
 }
 
 /// Performs the operation of a step, and checks its receipt, its entry and the totals.
-fn check_op(rt: &(impl Abort + AllocGlobal), book: &mut Book, op: &Op, step: Step<'_>) {
+fn check_op<T: Table<Global>>(
+    rt: &(impl Abort + AllocGlobal),
+    book: &mut Book<Global, T>,
+    op: &Op,
+    step: Step<'_>,
+) {
     let (job, _asked, answered, found, hit) = step;
     let receipt = taken(rt, book, job, op);
     check_receipt(rt, entries(book), job, op, &receipt);
@@ -56,9 +62,9 @@ fn check_op(rt: &(impl Abort + AllocGlobal), book: &mut Book, op: &Op, step: Ste
 }
 
 /// Performs a step, and checks its receipt, its entry and the totals.
-fn check_step(
+fn check_step<T: Table<Global>>(
     rt: &(impl Abort + AllocGlobal),
-    book: &mut Book,
+    book: &mut Book<Global, T>,
     step: Step<'_>,
 ) -> Result<(), Fail> {
     let op = op_of(rt.alloc(), step.1)?;
@@ -67,9 +73,9 @@ fn check_step(
 }
 
 /// Performs the steps, and checks each step's receipt, its entry and the totals after it.
-pub(super) fn check_steps(
+pub(super) fn check_steps<T: Table<Global>>(
     rt: &(impl Abort + AllocGlobal),
-    book: &mut Book,
+    book: &mut Book<Global, T>,
     steps: &[Step<'_>],
 ) -> Result<(), Fail> {
     for step in steps {

@@ -2,11 +2,12 @@
 //! contracts. The functions panic on an error: one that returned early would have to drop what it owns on that way out.
 
 use covbook::{
-    Answer, BookFault, Entry, GatherFault, JobLog, Op, PackedRef, Receipt, SubRef, TextRef,
+    Answer, Book, BookFault, Entry, GatherFault, JobLog, Op, PackedRef, Ready, Receipt, SubRef,
+    TextRef,
 };
 use covdata::Bytes;
-use covnamed::{Book, Ready};
 use covread::{read_trace, read_trace_packed};
+use covreport::Table;
 use covtable::Totals;
 use std::alloc::Global;
 use std::process::Abort;
@@ -38,9 +39,9 @@ pub(super) fn read_packed(alloc: Global, text: &[u8]) -> Result<Op, Fail> {
     Ok(Op::SubmitPacked(PackedRef::of(alloc, submission)?))
 }
 
-pub(super) fn step(
+pub(super) fn step<T: Table<Global>>(
     alloc: Global,
-    book: &mut Book,
+    book: &mut Book<Global, T>,
     job: u32,
     op: &Op,
 ) -> Result<Receipt, BookFault> {
@@ -48,13 +49,23 @@ pub(super) fn step(
 }
 
 /// Performs a step in its two halves.
-fn step_in_halves(alloc: Global, book: &mut Book, job: u32, op: &Op) -> Result<Receipt, BookFault> {
+fn step_in_halves<T: Table<Global>>(
+    alloc: Global,
+    book: &mut Book<Global, T>,
+    job: u32,
+    op: &Op,
+) -> Result<Receipt, BookFault> {
     let ready = book.ready(alloc, job, op)?;
     Ok(book.finish(ready))
 }
 
 /// Performs a step. For jobs from 8 on, performs it in two halves.
-fn take(alloc: Global, book: &mut Book, job: u32, op: &Op) -> Result<Receipt, BookFault> {
+fn take<T: Table<Global>>(
+    alloc: Global,
+    book: &mut Book<Global, T>,
+    job: u32,
+    op: &Op,
+) -> Result<Receipt, BookFault> {
     if job < 8 {
         step(alloc, book, job, op)
     } else {
@@ -63,9 +74,9 @@ fn take(alloc: Global, book: &mut Book, job: u32, op: &Op) -> Result<Receipt, Bo
 }
 
 /// Performs a step as `take` does, and returns its receipt.
-pub(super) fn taken(
+pub(super) fn taken<T: Table<Global>>(
     rt: &(impl Abort + AllocGlobal),
-    book: &mut Book,
+    book: &mut Book<Global, T>,
     job: u32,
     op: &Op,
 ) -> Receipt {
@@ -75,15 +86,20 @@ pub(super) fn taken(
     }
 }
 
-pub(super) fn ready(alloc: Global, book: &mut Book, job: u32, op: &Op) -> Result<Ready, BookFault> {
+pub(super) fn ready<T: Table<Global>>(
+    alloc: Global,
+    book: &mut Book<Global, T>,
+    job: u32,
+    op: &Op,
+) -> Result<Ready<Global, T::Plan, T::Renaming>, BookFault> {
     book.ready(alloc, job, op)
 }
 
-pub(super) fn entries(book: &Book) -> &[Entry] {
+pub(super) fn entries<T: Table<Global>>(book: &Book<Global, T>) -> &[Entry] {
     book.entries()
 }
 
-pub(super) fn totals(book: &Book) -> Totals {
+pub(super) fn totals<T: Table<Global>>(book: &Book<Global, T>) -> Totals {
     book.totals()
 }
 

@@ -6,8 +6,8 @@ ghost use Rattle.std.specs.Prelude.{◌≡◌};
 use super::collecting::{bytes, submission, trace};
 use super::wrappers::{close, done, start};
 use covbook::{Entries, JobLog, Op, Reading, Readings, Receipt, Receipts};
-use covjobs::{Done, Name, News, Seat, Start};
-use covnamed::{Shared, open_book};
+use covjobs::{Done, Name, News, Seat, Shared, Start, open_book};
+use covreport::Table;
 use std::alloc::{Allocator, Global};
 use std::process::Abort;
 use std::sync::Wait;
@@ -24,16 +24,16 @@ pub(super) fn started<A: Allocator + Copy>(rt: &impl Abort, alloc: A, jobs: u32)
 }
 
 /// Opens a book, and returns it with the seats of its jobs.
-pub(super) fn opened<L: Name, A: Allocator + Copy>(
+pub(super) fn opened<L: Name, A: Allocator + Copy, T: Table<A>>(
     rt: &impl Abort,
     alloc: A,
     start: Start<A>,
-) -> (Shared<L, A>, Vec<Seat<L>, A>)
+) -> (Shared<L, A, T>, Vec<Seat<L>, A>)
     requires name { start.name ≡ L.name }
     requires jobs { start.jobs ≡ L.parts }
     requires book { start.book ≡ L.book }
 {
-    match open_book::<L, A>(alloc, start) {
+    match open_book::<L, A, T>(alloc, start) {
         Ok((book, seats)) => (book, seats.into_vec()),
         Err(_refused) => panic!(rt; "no book is opened"),
     }
@@ -48,9 +48,9 @@ pub(super) fn first_of<'a, L: Name>(rt: &impl Abort, seats: &'a mut [Seat<L>]) -
 }
 
 /// Closes the book with all of its seats. Returns the book's history, and news of this history.
-pub(super) fn closed<L: Name, A: Allocator + Copy, R: Wait + Abort>(
+pub(super) fn closed<L: Name, A: Allocator + Copy, R: Wait + Abort, T: Table<A>>(
     rt: &R,
-    book: Shared<L, A>,
+    book: Shared<L, A, T>,
     seats: Vec<Seat<L>, A>,
 ) -> (Entries<A>, News<L>) {
     match close(rt, book, seats) {
@@ -60,9 +60,9 @@ pub(super) fn closed<L: Name, A: Allocator + Copy, R: Wait + Abort>(
 }
 
 /// Closes the book with all of its seats, and returns its history.
-pub(super) fn history_of<L: Name, A: Allocator + Copy, R: Wait + Abort>(
+pub(super) fn history_of<L: Name, A: Allocator + Copy, R: Wait + Abort, T: Table<A>>(
     rt: &R,
-    book: Shared<L, A>,
+    book: Shared<L, A, T>,
     seats: Vec<Seat<L>, A>,
 ) -> Entries<A> {
     closed(rt, book, seats).0
@@ -106,10 +106,10 @@ fn rename(rt: &impl Abort, alloc: Global) -> Op {
 }
 
 /// Performs the operation with the seat. Returns the receipt and the news, and panics on an error.
-pub(super) fn done_of<L: Name, R: Wait + Abort>(
+pub(super) fn done_of<L: Name, R: Wait + Abort, T: Table<Global>>(
     rt: &R,
     alloc: Global,
-    book: &Shared<L>,
+    book: &Shared<L, Global, T>,
     seat: &mut Seat<L>,
     op: &Op,
 ) -> Done<L> {
@@ -120,10 +120,10 @@ pub(super) fn done_of<L: Name, R: Wait + Abort>(
 }
 
 /// Performs the operation with the seat. Returns the receipt, and panics on an error.
-pub(super) fn receipt_of<L: Name, R: Wait + Abort>(
+pub(super) fn receipt_of<L: Name, R: Wait + Abort, T: Table<Global>>(
     rt: &R,
     alloc: Global,
-    book: &Shared<L>,
+    book: &Shared<L, Global, T>,
     seat: &mut Seat<L>,
     op: &Op,
 ) -> Receipt {
@@ -138,10 +138,10 @@ pub(super) fn keep(rt: &impl Abort, log: &mut JobLog, receipt: Receipt) {
 }
 
 /// Performs the operation that `ask` stands for, and appends the receipt to the log.
-pub(super) fn perform<L: Name, R: Wait + Abort>(
+pub(super) fn perform<L: Name, R: Wait + Abort, T: Table<Global>>(
     rt: &R,
     alloc: Global,
-    book: &Shared<L>,
+    book: &Shared<L, Global, T>,
     seat: &mut Seat<L>,
     log: &mut JobLog,
     ask: Ask,

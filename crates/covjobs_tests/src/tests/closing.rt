@@ -5,8 +5,10 @@ ghost use Rattle.std.specs.Prelude.{◌≡◌};
 use super::books::{Ask, first_of, history_of, op_of, opened, receipt_of, started};
 use super::said::check_entries;
 use super::wrappers::{close, none};
-use covjobs::{CloseFault, Name, Seat, Seats, Start};
-use covnamed::Shared;
+use covjobs::{CloseFault, Name, Seat, Seats, Shared, Start};
+use covreport::Table;
+use covstore::Store;
+use std::alloc::Global;
 use std::marker::Brand;
 use std::process::Abort;
 use std::sync::Wait;
@@ -23,12 +25,12 @@ const ENTRIES: &[u8] = b"\
 ";
 
 /// Tries to close the book without the seat of `job`. Checks that this fails, and returns the book and the other seats.
-fn close_without<L: Name, R: Wait + Abort>(
+fn close_without<L: Name, R: Wait + Abort, T: Table<Global>>(
     rt: &R,
-    book: Shared<L>,
+    book: Shared<L, Global, T>,
     seats: Vec<Seat<L>>,
     job: u32,
-) -> (Shared<L>, Vec<Seat<L>>) {
+) -> (Shared<L, Global, T>, Vec<Seat<L>>) {
     match close(rt, book, seats) {
         Ok(_closed) => panic!(rt; "no seat is missing"),
         Err((book, seats, fault)) => {
@@ -40,9 +42,9 @@ fn close_without<L: Name, R: Wait + Abort>(
 
 /// Performs the operation with the first seat. Checks that the call succeeds, that the seat is job 0's, and that `calls` of the
 /// seat's calls have succeeded so far.
-fn check_usable<L: Name, R: Wait + Abort + AllocGlobal>(
+fn check_usable<L: Name, R: Wait + Abort + AllocGlobal, T: Table<Global>>(
     rt: &R,
-    book: &Shared<L>,
+    book: &Shared<L, Global, T>,
     seats: &mut [Seat<L>],
     ask: Ask,
     calls: u64,
@@ -70,11 +72,11 @@ fn with_last<L: Name>(rt: &impl Abort, seats: Vec<Seat<L>>, last: Option<Seat<L>
 }
 
 /// Checks that the book isn't closed without the second seat, and that the first seat works before and after this attempt.
-fn refused_once<L: Name, R: Wait + Abort + AllocGlobal>(
+fn refused_once<L: Name, R: Wait + Abort + AllocGlobal, T: Table<Global>>(
     rt: &R,
-    book: Shared<L>,
+    book: Shared<L, Global, T>,
     mut seats: Vec<Seat<L>>,
-) -> (Shared<L>, Vec<Seat<L>>) {
+) -> (Shared<L, Global, T>, Vec<Seat<L>>) {
     check_usable(rt, &book, seats.as_mut_slice(), Ask::Submit, 1);
     let (book, mut seats) = close_without(rt, book, seats, 1);
     check_usable(rt, &book, seats.as_mut_slice(), Ask::Summary, 2);
@@ -83,12 +85,12 @@ fn refused_once<L: Name, R: Wait + Abort + AllocGlobal>(
 
 /// Tries to close a book of two seats: first without the second seat, then without any seat, and at last with both. Checks that the
 /// operations before and after a failed close are in the history.
-fn kept_back<L: Name, R: Wait + Abort + AllocGlobal>(rt: &R, start: Start)
+fn kept_back<L: Name, R: Wait + Abort + AllocGlobal, T: Table<Global>>(rt: &R, start: Start)
     requires name { start.name ≡ L.name }
     requires jobs { start.jobs ≡ L.parts }
     requires book { start.book ≡ L.book }
 {
-    let (book, mut seats) = opened::<L, _>(rt, rt.alloc(), start);
+    let (book, mut seats) = opened::<L, _, T>(rt, rt.alloc(), start);
     assert_eq!(rt; seats.len(), 2);
     let last = seats.pop();
     let (book, seats) = refused_once(rt, book, seats);
@@ -99,5 +101,5 @@ fn kept_back<L: Name, R: Wait + Abort + AllocGlobal>(rt: &R, start: Start)
 
 #[test]
 fn seats_kept_back(rt: HostRuntime) {
-    kept_back::<Brand, _>(&rt, started(&rt, rt.alloc(), 2));
+    kept_back::<Brand, _, Store>(&rt, started(&rt, rt.alloc(), 2));
 }

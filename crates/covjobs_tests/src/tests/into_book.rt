@@ -8,8 +8,12 @@ use super::said::check_answers;
 use covbook::Op;
 use covdata::{Bytes, ReadFault};
 use covjobs::Input;
-use covnamed::{CollectedBook, collect_into_book};
-use covworkers::{CollectFault, Given, IntoBookFault, LateFault, LateInput, NoGate, Part};
+use covreport::Table;
+use covstore::Store;
+use covworkers::{
+    CollectFault, CollectedBook, Given, IntoBookFault, LateFault, LateInput, NoGate, Part,
+    collect_into_book,
+};
 use std::alloc::Global;
 use std::process::Abort;
 use std::sync::Wait;
@@ -109,11 +113,10 @@ fn inputs_of<'a>(rt: &impl Abort, alloc: Global, inputs: &'a str) -> Vec<Letters
 }
 
 /// Collects the inputs with `jobs` jobs.
-pub(super) fn answered<R: Threads + Wait + Sync + AllocGlobal + Abort>(
-    rt: &R,
-    inputs: &str,
-    jobs: u32,
-) -> Result<CollectedBook, IntoBookFault> {
+fn answered<
+    R: Threads + Wait + Sync + AllocGlobal + Abort,
+    T: Table<Global, Plan: Send, Renaming: Send> + Send,
+>(rt: &R, inputs: &str, jobs: u32) -> Result<CollectedBook<T>, IntoBookFault> {
     collect_into_book(
         rt,
         rt.alloc(),
@@ -124,11 +127,10 @@ pub(super) fn answered<R: Threads + Wait + Sync + AllocGlobal + Abort>(
 }
 
 /// Collects the inputs with `jobs` jobs. Panics on an error.
-fn collected_of<R: Threads + Wait + Sync + AllocGlobal + Abort>(
-    rt: &R,
-    inputs: &str,
-    jobs: u32,
-) -> CollectedBook {
+fn collected_of<
+    R: Threads + Wait + Sync + AllocGlobal + Abort,
+    T: Table<Global, Plan: Send, Renaming: Send> + Send,
+>(rt: &R, inputs: &str, jobs: u32) -> CollectedBook<T> {
     match answered(rt, inputs, jobs) {
         Ok(collected) => collected,
         Err(_fault) => panic!(rt; "nothing is collected"),
@@ -136,7 +138,11 @@ fn collected_of<R: Threads + Wait + Sync + AllocGlobal + Abort>(
 }
 
 /// Checks the report that the book prints.
-fn check_report<R: AllocGlobal + Abort>(rt: &R, collected: &CollectedBook, wanted: &[u8]) {
+fn check_report<R: AllocGlobal + Abort, T: Table<Global>>(
+    rt: &R,
+    collected: &CollectedBook<T>,
+    wanted: &[u8],
+) {
     match collected.book.text_of(rt.alloc(), &Op::Report) {
         Ok(text) => check_bytes(rt, text.get(), wanted),
         Err(_refused) => panic!(rt; "no memory for the report"),
@@ -144,8 +150,11 @@ fn check_report<R: AllocGlobal + Abort>(rt: &R, collected: &CollectedBook, wante
 }
 
 /// Collects inputs of which the second is rejected. Checks that three submissions add up.
-fn check_added_up<R: Threads + Wait + Sync + AllocGlobal + Abort>(rt: &R, inputs: &str, jobs: u32) {
-    let collected = collected_of(rt, inputs, jobs);
+fn check_added_up<
+    R: Threads + Wait + Sync + AllocGlobal + Abort,
+    T: Table<Global, Plan: Send, Renaming: Send> + Send,
+>(rt: &R, inputs: &str, jobs: u32) {
+    let collected = collected_of::<R, T>(rt, inputs, jobs);
     assert!(rt; is_outside(collected.refused.get(), 1));
     assert_eq!(rt; collected.book.kept().len(), 3);
     check_report(rt, &collected, ADDED_UP);
@@ -156,7 +165,7 @@ fn check_added_up<R: Threads + Wait + Sync + AllocGlobal + Abort>(rt: &R, inputs
 #[test]
 fn collected_into_a_book(rt: HostRuntime) {
     for (inputs, jobs) in [("sos x", 1), ("s osxs", 1), ("s ox s", 2), ("s x o s", 3)] {
-        check_added_up(&rt, inputs, jobs);
+        check_added_up::<_, Store>(&rt, inputs, jobs);
     }
 }
 
@@ -168,24 +177,40 @@ accepted 2 2 0
 clash 7 
 ";
 
+/// Collects inputs with one job, and checks the answers.
+fn check_order<
+    R: Threads + Wait + Sync + AllocGlobal + Abort,
+    T: Table<Global, Plan: Send, Renaming: Send> + Send,
+>(rt: &R, inputs: &str, wanted: &[u8]) {
+    let collected = collected_of::<R, T>(rt, inputs, 1);
+    check_answers(rt, collected.book.kept(), wanted);
+}
+
 /// Entries come in the order of the parts.
 #[test]
 fn the_order_of_parts(rt: HostRuntime) {
-    let collected = collected_of(&rt, "12s 2", 1);
-    check_answers(&rt, collected.book.kept(), TWO_CLASHES);
+    check_order::<_, Store>(&rt, "12s 2", TWO_CLASHES);
+}
+
+/// Whether collecting the inputs in a table `T` ends with the error `wanted`.
+fn ends_over<
+    R: Threads + Wait + Sync + AllocGlobal + Abort,
+    T: Table<Global, Plan: Send, Renaming: Send> + Send,
+>(rt: &R, inputs: &str, jobs: u32, wanted: IntoBookFault) -> bool {
+    match answered::<R, T>(rt, inputs, jobs) {
+        Ok(_collected) => false,
+        Err(fault) => fault == wanted,
+    }
 }
 
 /// Whether collecting the inputs ends with the error `wanted`.
-fn ends_with<R: Threads + Wait + Sync + AllocGlobal + Abort>(
+pub(super) fn ends_with<R: Threads + Wait + Sync + AllocGlobal + Abort>(
     rt: &R,
     inputs: &str,
     jobs: u32,
     wanted: IntoBookFault,
 ) -> bool {
-    match answered(rt, inputs, jobs) {
-        Ok(_collected) => false,
-        Err(fault) => fault == wanted,
-    }
+    ends_over::<R, Store>(rt, inputs, jobs, wanted)
 }
 
 /// Inputs, the number of jobs, and the index of the first unreadable input, which is reported. A job may reach a later one first. An

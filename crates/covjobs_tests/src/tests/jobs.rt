@@ -38,10 +38,8 @@ fn is_bad_for_owned<R: Threads + Wait + Sync + AllocGlobal>(rt: &R, jobs: u32) -
 
 /// Whether `collect_into_book` rejects this number of jobs.
 fn is_bad_for_a_book<R: Threads + Wait + Sync + AllocGlobal + Abort>(rt: &R, jobs: u32) -> bool {
-    match into_book::answered(rt, "s", jobs) {
-        Err(IntoBookFault::Collect(CollectFault::BadJobs)) => true,
-        _ => false,
-    }
+    let bad = IntoBookFault::Collect(CollectFault::BadJobs);
+    into_book::ends_with(rt, "s", jobs, bad)
 }
 
 /// Checks whether this number of jobs is rejected.

@@ -8,8 +8,9 @@ use super::books::{
 };
 use super::wrappers::{gathered, learn, reader, reading, totals};
 use covbook::{Entry, JobLog, Reading, Readings};
-use covjobs::{Live, Name, News, ReaderFault, Seat, Start};
-use covnamed::Shared;
+use covjobs::{Live, Name, News, ReaderFault, Seat, Shared, Start};
+use covreport::Table;
+use covstore::Store;
 use std::alloc::Global;
 use std::marker::Brand;
 use std::process::Abort;
@@ -18,7 +19,10 @@ use std::test::*;
 use std::thread::{Threads, join};
 
 /// Makes a reader of the book. Panics on an error.
-fn reader_of<L: Name, R: Wait + Abort>(rt: &R, book: &Shared<L>) -> Live<L> {
+fn reader_of<L: Name, R: Wait + Abort, T: Table<Global>>(
+    rt: &R,
+    book: &Shared<L, Global, T>,
+) -> Live<L> {
     match reader(rt, book) {
         Ok(live) => live,
         Err(_fault) => panic!(rt; "no reader"),
@@ -49,10 +53,10 @@ fn check_news<L: Name>(rt: &impl Abort, news: &News<L>, upto: u64) {
 }
 
 /// Lets job 0 submit the small tracefile, and returns the news.
-fn submitted<L: Name, R: Wait + Abort>(
+fn submitted<L: Name, R: Wait + Abort, T: Table<Global>>(
     rt: &R,
     alloc: Global,
-    book: &Shared<L>,
+    book: &Shared<L, Global, T>,
     seats: &mut [Seat<L>],
 ) -> News<L> {
     let op = op_of(rt, alloc, Ask::Submit);
@@ -60,9 +64,9 @@ fn submitted<L: Name, R: Wait + Abort>(
 }
 
 /// Makes a reader, which reports no entries. After a submit, the reader reports it, although it learns no news.
-fn asked_reader<L: Name, R: Wait + Abort + AllocGlobal>(
+fn asked_reader<L: Name, R: Wait + Abort + AllocGlobal, T: Table<Global>>(
     rt: &R,
-    book: &Shared<L>,
+    book: &Shared<L, Global, T>,
     seats: &mut [Seat<L>],
 ) -> Live<L> {
     let mut asked = reader_of(rt, book);
@@ -82,12 +86,12 @@ fn check_early<L: Name>(rt: &impl Abort, mut early: Live<L>, news: &News<L>) {
 
 /// Closes a book after its only entry. `asked`, which read this entry before the close, still reports it. So does `late`, which was
 /// made after the entry.
-fn kept_over_close<L: Name, R: Wait + Abort + AllocGlobal>(rt: &R, start: Start)
+fn kept_over_close<L: Name, R: Wait + Abort + AllocGlobal, T: Table<Global>>(rt: &R, start: Start)
     requires name { start.name ≡ L.name }
     requires jobs { start.jobs ≡ L.parts }
     requires book { start.book ≡ L.book }
 {
-    let (book, mut seats) = opened::<L, _>(rt, rt.alloc(), start);
+    let (book, mut seats) = opened::<L, _, T>(rt, rt.alloc(), start);
     let early = reader_of(rt, &book);
     let mut asked = asked_reader(rt, &book, seats.as_mut_slice());
     let mut late = reader_of(rt, &book);
@@ -99,14 +103,14 @@ fn kept_over_close<L: Name, R: Wait + Abort + AllocGlobal>(rt: &R, start: Start)
 
 #[test]
 fn readers_of_a_closed_book(rt: HostRuntime) {
-    kept_over_close::<Brand, _>(&rt, started(&rt, rt.alloc(), 1));
+    kept_over_close::<Brand, _, Store>(&rt, started(&rt, rt.alloc(), 1));
 }
 
 /// Makes `count` readers of the book.
-fn readers_of<L: Name, R: Wait + Abort>(
+fn readers_of<L: Name, R: Wait + Abort, T: Table<Global>>(
     rt: &R,
     alloc: Global,
-    book: &Shared<L>,
+    book: &Shared<L, Global, T>,
     count: u64,
 ) -> Vec<Live<L>> {
     let mut readers = Vec::new(alloc);
@@ -119,7 +123,7 @@ fn readers_of<L: Name, R: Wait + Abort>(
 }
 
 /// Whether the book has no place for one more reader.
-fn has_no_place<L: Name, R: Wait>(rt: &R, book: &Shared<L>) -> bool {
+fn has_no_place<L: Name, R: Wait, T: Table<Global>>(rt: &R, book: &Shared<L, Global, T>) -> bool {
     match reader(rt, book) {
         Ok(_live) => false,
         Err(fault) => fault == ReaderFault::NoPlace,
@@ -127,12 +131,12 @@ fn has_no_place<L: Name, R: Wait>(rt: &R, book: &Shared<L>) -> bool {
 }
 
 /// Checks that after a call, a book has places for 64 readers, and for no more. Drops the readers before it closes the book.
-fn all_places<L: Name, R: Wait + Abort + AllocGlobal>(rt: &R, start: Start)
+fn all_places<L: Name, R: Wait + Abort + AllocGlobal, T: Table<Global>>(rt: &R, start: Start)
     requires name { start.name ≡ L.name }
     requires jobs { start.jobs ≡ L.parts }
     requires book { start.book ≡ L.book }
 {
-    let (book, mut seats) = opened::<L, _>(rt, rt.alloc(), start);
+    let (book, mut seats) = opened::<L, _, T>(rt, rt.alloc(), start);
     let _news = submitted(rt, rt.alloc(), &book, seats.as_mut_slice());
     let readers = readers_of(rt, rt.alloc(), &book, 64);
     assert!(rt; has_no_place(rt, &book));
@@ -142,7 +146,7 @@ fn all_places<L: Name, R: Wait + Abort + AllocGlobal>(rt: &R, start: Start)
 
 #[test]
 fn places_for_readers(rt: HostRuntime) {
-    all_places::<Brand, _>(&rt, started(&rt, rt.alloc(), 1));
+    all_places::<Brand, _, Store>(&rt, started(&rt, rt.alloc(), 1));
 }
 
 /// How often the small tracefile is submitted, and how often the totals are read at the same time.
@@ -156,10 +160,10 @@ struct Told<L: Name> {
 }
 
 /// Lets job 0 submit the small tracefile `TIMES` times.
-fn submit_often<L: Name, R: Wait + Abort>(
+fn submit_often<L: Name, R: Wait + Abort, T: Table<Global>>(
     rt: &R,
     alloc: Global,
-    book: &Shared<L>,
+    book: &Shared<L, Global, T>,
     mut seats: Vec<Seat<L>>,
 ) -> Told<L> {
     let mut log = empty_log(alloc, 0);
@@ -174,10 +178,10 @@ fn submit_often<L: Name, R: Wait + Abort>(
 }
 
 /// Submits the small tracefile `TIMES` times, and appends the receipts to the log.
-fn submit_each<L: Name, R: Wait + Abort>(
+fn submit_each<L: Name, R: Wait + Abort, T: Table<Global>>(
     rt: &R,
     alloc: Global,
-    book: &Shared<L>,
+    book: &Shared<L, Global, T>,
     seat: &mut Seat<L>,
     log: &mut JobLog,
 ) {
@@ -239,9 +243,9 @@ fn check_history(rt: &impl Abort, entries: &[Entry], log: JobLog) {
 }
 
 /// Closes the book, and checks its history with the log and the reader's readings.
-fn check_closed<L: Name, R: Wait + Abort>(
+fn check_closed<L: Name, R: Wait + Abort, T: Table<Global>>(
     rt: &R,
-    book: Shared<L>,
+    book: Shared<L, Global, T>,
     told: Told<L>,
     watched: Watched<L>,
 ) {
@@ -252,16 +256,17 @@ fn check_closed<L: Name, R: Wait + Abort>(
     check_history(rt, entries.get(), log);
 }
 
-fn read_while_written<L: Name + Send + Sync, R: Threads + Wait + Abort + AllocGlobal + Sync>(
-    rt: &R,
-    start: Start,
-)
+fn read_while_written<
+    L: Name + Send + Sync,
+    R: Threads + Wait + Abort + AllocGlobal + Sync,
+    T: Table<Global, Plan: Send, Renaming: Send> + Send,
+>(rt: &R, start: Start)
     requires name { start.name ≡ L.name }
     requires jobs { start.jobs ≡ L.parts }
     requires book { start.book ≡ L.book }
 {
     let alloc = rt.alloc();
-    let (book, seats) = opened::<L, _>(rt, alloc, start);
+    let (book, seats) = opened::<L, _, T>(rt, alloc, start);
     let live = reader_of(rt, &book);
     let (told, watched) = join(
         rt,
@@ -273,5 +278,5 @@ fn read_while_written<L: Name + Send + Sync, R: Threads + Wait + Abort + AllocGl
 
 #[test]
 fn read_at_once(rt: HostRuntime) {
-    read_while_written::<Brand, _>(&rt, started(&rt, rt.alloc(), 1));
+    read_while_written::<Brand, _, Store>(&rt, started(&rt, rt.alloc(), 1));
 }

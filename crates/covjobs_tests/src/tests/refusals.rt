@@ -5,20 +5,21 @@ ghost use Rattle.std.specs.Prelude.{◌≡◌};
 use super::books::{first_of, history_of, opened, started};
 use super::wrappers::done;
 use covbook::{BookFault, Op};
-use covjobs::{Name, Seat, Start};
-use covnamed::Shared;
+use covjobs::{Name, Seat, Shared, Start};
+use covreport::Table;
+use covstore::Store;
 use linked_list_allocator::LocalHeap;
-use std::alloc::Allocator;
+use std::alloc::{Allocator, Global};
 use std::marker::Brand;
 use std::process::Abort;
 use std::sync::Wait;
 use std::test::*;
 
 /// Asks for summaries until one fails, at most `most` times. Returns how many were answered, and the error.
-fn summaries<L: Name, A: Allocator + Copy, R: Wait>(
+fn summaries<L: Name, A: Allocator + Copy, R: Wait, T: Table<A>>(
     rt: &R,
     alloc: A,
-    book: &Shared<L, A>,
+    book: &Shared<L, A, T>,
     seat: &mut Seat<L>,
     most: u64,
 ) -> (u64, Option<BookFault>) {
@@ -37,10 +38,10 @@ fn check_seat<L: Name>(rt: &impl Abort, seat: &Seat<L>, calls: u64) {
 
 /// Asks for summaries until the heap is full, and returns how many were answered. Checks that the failed call doesn't change the
 /// seat. At the end, frees a block that it reserved at the start.
-fn fill_heap<L: Name, A: Allocator + Copy, R: Wait + Abort>(
+fn fill_heap<L: Name, A: Allocator + Copy, R: Wait + Abort, T: Table<A>>(
     rt: &R,
     alloc: A,
-    book: &Shared<L, A>,
+    book: &Shared<L, A, T>,
     seat: &mut Seat<L>,
 ) -> u64 {
     let Ok(room) = vec![in alloc; 0u8; 600_000] else {
@@ -56,10 +57,10 @@ fn fill_heap<L: Name, A: Allocator + Copy, R: Wait + Abort>(
 
 /// Fills the heap with the seat's calls. Checks that the same call succeeds once memory is free again, and gets the next index.
 /// Returns how many calls have succeeded.
-fn check_refusal<L: Name, A: Allocator + Copy, R: Wait + Abort>(
+fn check_refusal<L: Name, A: Allocator + Copy, R: Wait + Abort, T: Table<A>>(
     rt: &R,
     alloc: A,
-    book: &Shared<L, A>,
+    book: &Shared<L, A, T>,
     seat: &mut Seat<L>,
 ) -> u64 {
     let succeeded = fill_heap(rt, alloc, book, seat);
@@ -73,20 +74,24 @@ fn check_refusal<L: Name, A: Allocator + Copy, R: Wait + Abort>(
 }
 
 /// Fills the heap with calls of a book's only seat. Checks that the seat works again after memory is freed.
-fn no_room<L: Name, A: Allocator + Copy, R: Wait + Abort>(rt: &R, alloc: A, start: Start<A>)
+fn no_room<L: Name, A: Allocator + Copy, R: Wait + Abort, T: Table<A>>(
+    rt: &R,
+    alloc: A,
+    start: Start<A>,
+)
     requires name { start.name ≡ L.name }
     requires jobs { start.jobs ≡ L.parts }
     requires book { start.book ≡ L.book }
 {
-    let (book, mut seats) = opened::<L, A>(rt, alloc, start);
+    let (book, mut seats) = opened::<L, A, T>(rt, alloc, start);
     let calls = check_refusal(rt, alloc, &book, first_of(rt, seats.as_mut_slice()));
     check_length(rt, book, seats, calls);
 }
 
 /// Closes the book, and checks that its history has one entry per successful call.
-fn check_length<L: Name, A: Allocator + Copy, R: Wait + Abort>(
+fn check_length<L: Name, A: Allocator + Copy, R: Wait + Abort, T: Table<A>>(
     rt: &R,
-    book: Shared<L, A>,
+    book: Shared<L, A, T>,
     seats: Vec<Seat<L>, A>,
     calls: u64,
 ) {
@@ -94,32 +99,41 @@ fn check_length<L: Name, A: Allocator + Copy, R: Wait + Abort>(
     assert_eq!(rt; entries.get().len() as u64, calls);
 }
 
+/// Like `no_room`, with a new book over a `Store`.
+fn no_room_anew<A: Allocator + Copy, R: Wait + Abort>(rt: &R, alloc: A) {
+    no_room::<Brand, A, R, Store<A>>(rt, alloc, started(rt, alloc, 1));
+}
+
 #[test]
 fn a_heap_without_room(rt: HostRuntime) -> Result<(), Fail> {
     let heap = LocalHeap::new(rt.alloc(), 800_000)?;
-    no_room::<Brand, _, _>(&rt, &heap, started(&rt, &heap, 1));
+    no_room_anew(&rt, &heap);
     Ok(())
 }
 
 /// Asks for summaries until the history is full, which has at most 1,048,576 entries. Checks that the failed call doesn't change the
 /// seat.
-fn fill_book<L: Name, R: Wait + Abort + AllocGlobal>(rt: &R, book: &Shared<L>, seat: &mut Seat<L>) {
+fn fill_book<L: Name, R: Wait + Abort + AllocGlobal, T: Table<Global>>(
+    rt: &R,
+    book: &Shared<L, Global, T>,
+    seat: &mut Seat<L>,
+) {
     let refused = summaries(rt, rt.alloc(), book, seat, 1_048_577);
     assert_eq!(rt; refused, (1_048_576, Some(BookFault::Full)));
     check_seat(rt, seat, 1_048_576);
 }
 
-fn full<L: Name, R: Wait + Abort + AllocGlobal>(rt: &R, start: Start)
+fn full<L: Name, R: Wait + Abort + AllocGlobal, T: Table<Global>>(rt: &R, start: Start)
     requires name { start.name ≡ L.name }
     requires jobs { start.jobs ≡ L.parts }
     requires book { start.book ≡ L.book }
 {
-    let (book, mut seats) = opened::<L, _>(rt, rt.alloc(), start);
+    let (book, mut seats) = opened::<L, _, T>(rt, rt.alloc(), start);
     fill_book(rt, &book, first_of(rt, seats.as_mut_slice()));
     check_length(rt, book, seats, 1_048_576);
 }
 
 #[test]
 fn a_full_book(rt: HostRuntime) {
-    full::<Brand, _>(&rt, started(&rt, rt.alloc(), 1));
+    full::<Brand, _, Store>(&rt, started(&rt, rt.alloc(), 1));
 }

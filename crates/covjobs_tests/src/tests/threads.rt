@@ -8,8 +8,9 @@ use super::books::{
 use super::collecting::check_last;
 use super::wrappers::gathered;
 use covbook::{Answer, Entry, JobLog, Op};
-use covjobs::{Name, Seat, Start};
-use covnamed::Shared;
+use covjobs::{Name, Seat, Shared, Start};
+use covreport::Table;
+use covstore::Store;
 use std::alloc::Global;
 use std::marker::Brand;
 use std::process::Abort;
@@ -21,10 +22,10 @@ use std::thread::Threads;
 const MERGED: &[u8] = b"TN:t\nSF:/a.c\nDA:1,400\nDA:2,0\nLF:2\nLH:1\nend_of_record\n";
 
 /// Performs `op` fifty times with the seat, and appends the receipts to the log.
-fn ask_often<L: Name, R: Wait + Abort>(
+fn ask_often<L: Name, R: Wait + Abort, T: Table<Global>>(
     rt: &R,
     alloc: Global,
-    book: &Shared<L>,
+    book: &Shared<L, Global, T>,
     seat: &mut Seat<L>,
     log: &mut JobLog,
     op: &Op,
@@ -35,10 +36,14 @@ fn ask_often<L: Name, R: Wait + Abort>(
 }
 
 /// Lets each job perform `op` fifty times, in a thread of its own.
-fn ask_at_once<L: Name + Send + Sync, R: Threads + Wait + Abort + Sync>(
+fn ask_at_once<
+    L: Name + Send + Sync,
+    R: Threads + Wait + Abort + Sync,
+    T: Table<Global, Plan: Send, Renaming: Send> + Send,
+>(
     rt: &R,
     alloc: Global,
-    book: &Shared<L>,
+    book: &Shared<L, Global, T>,
     seats: &mut [Seat<L>],
     logs: &mut [JobLog],
     op: &Op,
@@ -76,10 +81,10 @@ fn accepted_first(entries: &[Entry]) -> usize {
 }
 
 /// Lets the first job ask for the report, after the threads have ended.
-fn ask_for_report<L: Name, R: Wait + Abort>(
+fn ask_for_report<L: Name, R: Wait + Abort, T: Table<Global>>(
     rt: &R,
     alloc: Global,
-    book: &Shared<L>,
+    book: &Shared<L, Global, T>,
     seats: &mut [Seat<L>],
     logs: &mut [JobLog],
 ) {
@@ -96,16 +101,17 @@ fn check_history(rt: &impl Abort, entries: &[Entry], logs: &[JobLog]) {
     assert!(rt; gathered(entries, logs).is_ok());
 }
 
-fn at_once<L: Name + Send + Sync, R: Threads + Wait + Abort + AllocGlobal + Sync>(
-    rt: &R,
-    start: Start,
-)
+fn at_once<
+    L: Name + Send + Sync,
+    R: Threads + Wait + Abort + AllocGlobal + Sync,
+    T: Table<Global, Plan: Send, Renaming: Send> + Send,
+>(rt: &R, start: Start)
     requires name { start.name ≡ L.name }
     requires jobs { start.jobs ≡ L.parts }
     requires book { start.book ≡ L.book }
 {
     let alloc = rt.alloc();
-    let (book, mut seats) = opened::<L, _>(rt, alloc, start);
+    let (book, mut seats) = opened::<L, _, T>(rt, alloc, start);
     let mut logs = empty_logs(rt, alloc, seats.as_slice());
     let small = op_of(rt, alloc, Ask::Submit);
     ask_at_once(
@@ -122,5 +128,5 @@ fn at_once<L: Name + Send + Sync, R: Threads + Wait + Abort + AllocGlobal + Sync
 
 #[test]
 fn four_threads(rt: HostRuntime) {
-    at_once::<Brand, _>(&rt, started(&rt, rt.alloc(), 4));
+    at_once::<Brand, _, Store>(&rt, started(&rt, rt.alloc(), 4));
 }

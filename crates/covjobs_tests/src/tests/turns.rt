@@ -8,8 +8,9 @@ use super::books::{Ask, empty_logs, history_of, keep_reading, opened, perform, s
 use super::said::{check_entries, check_receipts};
 use super::wrappers::gathered;
 use covbook::{Entries, Entry, GatherFault, JobLog, Reading};
-use covjobs::{Name, Seat, Start};
-use covnamed::Shared;
+use covjobs::{Name, Seat, Shared, Start};
+use covreport::Table;
+use covstore::Store;
 use covtable::Totals;
 use std::alloc::Global;
 use std::marker::Brand;
@@ -131,10 +132,10 @@ const ASKED_TO_SUBMIT_LAST: [Ask; 6] = [
 ];
 
 /// Lets two jobs take turns to perform the operations, and stores each receipt in the job's log.
-fn keep_turns<L: Name, R: Wait + Abort>(
+fn keep_turns<L: Name, R: Wait + Abort, T: Table<Global>>(
     rt: &R,
     alloc: Global,
-    book: &Shared<L>,
+    book: &Shared<L, Global, T>,
     seats: &mut [Seat<L>],
     logs: &mut [JobLog],
     asks: &[Ask],
@@ -164,7 +165,7 @@ fn check_seats<L: Name>(rt: &(impl Abort + AllocGlobal), seats: &[Seat<L>], want
     assert_eq!(rt; numbers.as_slice(), wanted);
 }
 
-fn in_turn<L: Name, R: Wait + Abort + AllocGlobal>(
+fn in_turn<L: Name, R: Wait + Abort + AllocGlobal, T: Table<Global>>(
     rt: &R,
     start: Start,
     asks: &[Ask],
@@ -173,7 +174,7 @@ fn in_turn<L: Name, R: Wait + Abort + AllocGlobal>(
     requires jobs { start.jobs ≡ L.parts }
     requires book { start.book ≡ L.book }
 {
-    let (book, mut seats) = opened::<L, _>(rt, rt.alloc(), start);
+    let (book, mut seats) = opened::<L, _, T>(rt, rt.alloc(), start);
     let mut logs = empty_logs(rt, rt.alloc(), seats.as_slice());
     check_seats(rt, seats.as_slice(), &[0, 0, 0, 1, 0, 0]);
     keep_turns(
@@ -190,7 +191,7 @@ fn in_turn<L: Name, R: Wait + Abort + AllocGlobal>(
 
 /// Opens a book, and lets two jobs take turns to perform the six operations. Returns the book's history and the logs.
 fn history<R: Wait + Abort + AllocGlobal>(rt: &R, asks: &[Ask]) -> (Entries, Vec<JobLog>) {
-    in_turn::<Brand, _>(rt, started(rt, rt.alloc(), 2), asks)
+    in_turn::<Brand, _, Store>(rt, started(rt, rt.alloc(), 2), asks)
 }
 
 /// Checks the history of the six operations, and that `gather` accepts it with the logs. Returns the logs.

@@ -1,8 +1,10 @@
 //! Wraps calls in functions without `ensures` clauses: tests look only at values, and are proved faster without such clauses.
 
 use covbook::{BookFault, Entries, Entry, GatherFault, JobLog, Op, Reading, gather};
-use covjobs::{CloseFault, Done, Live, Name, News, OpenFault, ReaderFault, Seat, Seats, Start};
-use covnamed::Shared;
+use covjobs::{
+    CloseFault, Done, Live, Name, News, OpenFault, ReaderFault, Seat, Seats, Shared, Start,
+};
+use covreport::Table;
 use std::alloc::{Allocator, Global};
 use std::sync::Wait;
 
@@ -11,25 +13,28 @@ pub(super) fn start<A: Allocator + Copy>(alloc: A, jobs: u32) -> Result<Start<A>
 }
 
 /// Performs the operation with the seat, and returns the receipt and the news.
-pub(super) fn done<L: Name, A: Allocator + Copy, R: Wait>(
+pub(super) fn done<L: Name, A: Allocator + Copy, R: Wait, T: Table<A>>(
     rt: &R,
     alloc: A,
-    book: &Shared<L, A>,
+    book: &Shared<L, A, T>,
     seat: &mut Seat<L>,
     op: &Op<A>,
 ) -> Result<Done<L, A>, BookFault> {
     book.perform(rt, alloc, seat, op)
 }
 
-pub(super) fn close<L: Name, A: Allocator + Copy, R: Wait>(
+pub(super) fn close<L: Name, A: Allocator + Copy, R: Wait, T: Table<A>>(
     rt: &R,
-    book: Shared<L, A>,
+    book: Shared<L, A, T>,
     seats: Vec<Seat<L>, A>,
-) -> Result<(Entries<A>, News<L>), (Shared<L, A>, Seats<L, A>, CloseFault)> {
+) -> Result<(Entries<A>, News<L>), (Shared<L, A, T>, Seats<L, A>, CloseFault)> {
     book.close(rt, Seats::of(seats))
 }
 
-pub(super) fn reader<L: Name, R: Wait>(rt: &R, book: &Shared<L>) -> Result<Live<L>, ReaderFault> {
+pub(super) fn reader<L: Name, R: Wait, T: Table<Global>>(
+    rt: &R,
+    book: &Shared<L, Global, T>,
+) -> Result<Live<L>, ReaderFault> {
     book.reader(rt)
 }
 

@@ -63,44 +63,42 @@ fn check(
     Ok(())
 }
 
-/// Inputs without sections, and errors.
 #[test]
 fn other_texts(rt: HostRuntime) -> Result<(), Fail> {
-    check(&rt, LcovVersion::One, b"", "- 0 0 0\nend\n")?;
-    check(&rt, LcovVersion::One, b"TN:t\nx", "- 0 0 0\nend\n")?;
-    check(&rt, LcovVersion::Two, b"\n#x\n", "- 0 0 0\nend\n")?;
-    check(
-        &rt,
+    for (version, text, wanted) in OTHER_TEXTS {
+        check(&rt, *version, text, wanted)?;
+    }
+    Ok(())
+}
+
+/// Inputs without sections, and errors.
+const OTHER_TEXTS: &[(LcovVersion, &[u8], &str)] = &[
+    (LcovVersion::One, b"", "- 0 0 0\nend\n"),
+    (LcovVersion::One, b"TN:t\nx", "- 0 0 0\nend\n"),
+    (LcovVersion::Two, b"\n#x\n", "- 0 0 0\nend\n"),
+    (
         LcovVersion::One,
         b"SF:/a.c\r\nend_of_record",
         " 1 0 0\nend\n",
-    )?;
-    check(&rt, LcovVersion::One, b"DA:1,1\n", "refused Outside at 1\n")?;
-    check(
-        &rt,
+    ),
+    (LcovVersion::One, b"DA:1,1\n", "refused Outside at 1\n"),
+    (
         LcovVersion::One,
         b"SF:/a.c\nend_of_record\nSF:/b.c\nDA:1\n",
         "refused BadLine at 4\n",
-    )?;
-    check(
-        &rt,
-        LcovVersion::One,
-        b"SF:/a.c\nDA:1,1",
-        "refused OpenEnd\n",
-    )?;
-    check(
-        &rt,
+    ),
+    (LcovVersion::One, b"SF:/a.c\nDA:1,1", "refused OpenEnd\n"),
+    (
         LcovVersion::One,
         b"SF:/a.c\nFNL:0,1\nend_of_record\nFNF:1\n",
         "refused Outside at 4\n",
-    )?;
-    check(
-        &rt,
+    ),
+    (
         LcovVersion::Two,
         b"SF:/a.c\nFNL:0,1\nFNA:0,2,f\nend_of_record\nFNF:1\n",
         " 1 2 0\nend\n",
-    )
-}
+    ),
+];
 
 /// A failed read ends reading.
 #[test]

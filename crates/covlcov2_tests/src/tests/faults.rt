@@ -1,20 +1,24 @@
 //! Tests the errors of inputs.
 
 use super::check_fault;
+use std::process::Abort;
 use std::test::*;
 
-#[test]
-fn faults(rt: HostRuntime) -> Result<(), Fail> {
-    for examples in [BAD_LINES, LARGE_NUMBERS, MISPLACED_LINES] {
-        for (text, wanted) in examples {
-            check_fault(&rt, text, wanted)?;
-        }
+/// An input, and its error.
+type Example = (&'static [u8], &'static str);
+
+/// Checks the errors of examples.
+fn check_all(rt: &(impl Abort + AllocGlobal), examples: &[Example]) -> Result<(), Fail> {
+    for (text, wanted) in examples {
+        check_fault(rt, text, wanted)?;
     }
     Ok(())
 }
 
-/// An input, and its error.
-type Example = (&'static [u8], &'static str);
+#[test]
+fn bad_lines(rt: HostRuntime) -> Result<(), Fail> {
+    check_all(&rt, BAD_LINES)
+}
 
 /// Lines that have a known key, but not the key's form.
 const BAD_LINES: &[Example] = &[
@@ -40,6 +44,11 @@ const BAD_LINES: &[Example] = &[
     (b"DA:1\n", "BadLine at 1"),
 ];
 
+#[test]
+fn large_numbers(rt: HostRuntime) -> Result<(), Fail> {
+    check_all(&rt, LARGE_NUMBERS)
+}
+
 /// Numbers that are too large, also of excluded branches.
 const LARGE_NUMBERS: &[Example] = &[
     (b"FN:18446744073709551616,3,f\n", "NumberTooLarge at 1"),
@@ -61,6 +70,11 @@ const LARGE_NUMBERS: &[Example] = &[
         "NumberTooLarge at 1",
     ),
 ];
+
+#[test]
+fn misplaced_lines(rt: HostRuntime) -> Result<(), Fail> {
+    check_all(&rt, MISPLACED_LINES)
+}
 
 /// Lines in the wrong place.
 const MISPLACED_LINES: &[Example] = &[

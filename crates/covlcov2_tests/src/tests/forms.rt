@@ -7,14 +7,17 @@ use std::test::*;
 /// An example: its name, a tracefile of LCOV 2, and a tracefile of version 1 with the same submission.
 type Example = (&'static str, &'static [u8], &'static [u8]);
 
-#[test]
-fn forms(rt: HostRuntime) -> Result<(), Fail> {
-    for examples in [FUNCTIONS, TOTALS, BRANCHES, SKIPPED_LINES, SECTIONS] {
-        for (name, text, wanted) in examples {
-            assert!(rt; reads_as(rt.alloc(), text, wanted)?, "{name}");
-        }
+/// Checks that each tracefile of LCOV 2 is read as its tracefile of version 1.
+fn check_all(rt: &(impl Abort + AllocGlobal), examples: &[Example]) -> Result<(), Fail> {
+    for (name, text, wanted) in examples {
+        assert!(rt; reads_as(rt.alloc(), text, wanted)?, "{name}");
     }
     Ok(())
+}
+
+#[test]
+fn functions(rt: HostRuntime) -> Result<(), Fail> {
+    check_all(&rt, FUNCTIONS)
 }
 
 /// Forms of `FN:`, `FNL:` and `FNA:` lines.
@@ -95,6 +98,11 @@ end_of_record
     ),
 ];
 
+#[test]
+fn totals(rt: HostRuntime) -> Result<(), Fail> {
+    check_all(&rt, TOTALS)
+}
+
 /// Totals above and below an `FNL:` line.
 const TOTALS: &[Example] = &[
     (
@@ -113,6 +121,11 @@ const TOTALS: &[Example] = &[
         b"SF:a\nDA:1,2\nLF:7\nLH:7\nBRF:7\nBRH:7\nend_of_record\n",
     ),
 ];
+
+#[test]
+fn branches(rt: HostRuntime) -> Result<(), Fail> {
+    check_all(&rt, BRANCHES)
+}
 
 /// Forms of `BRDA:` lines.
 const BRANCHES: &[Example] = &[
@@ -193,6 +206,11 @@ const BRANCHES: &[Example] = &[
     ),
 ];
 
+#[test]
+fn skipped_lines(rt: HostRuntime) -> Result<(), Fail> {
+    check_all(&rt, SKIPPED_LINES)
+}
+
 /// Lines without a meaning are skipped.
 const SKIPPED_LINES: &[Example] = &[
     (
@@ -206,6 +224,11 @@ const SKIPPED_LINES: &[Example] = &[
         b"SF:a\nFNX:1\nend_of_record\n",
     ),
 ];
+
+#[test]
+fn sections(rt: HostRuntime) -> Result<(), Fail> {
+    check_all(&rt, SECTIONS)
+}
 
 /// Whole inputs: with several sections, with carriage returns, or with lines outside of sections.
 const SECTIONS: &[Example] = &[

@@ -5,7 +5,7 @@ use super::heap::{AMPLE, narrow, new_heap, widen};
 use super::made;
 use super::mixed::{check_numbers, item};
 use super::packs::{Sample, check_packed, packed_of, submission_of};
-use super::sections::{SAMPLES, Section, check_sections, samples};
+use super::sections::{Section, check_sections, samples};
 use super::wrappers::{close, is_same_as, packed, push, unpacked};
 use bumpalo::Bump;
 use covdata::{Memory, Submission};
@@ -81,7 +81,7 @@ fn closes(rt: &impl Abort, heap: &Bump, room: usize) -> bool {
     let mut sects = PackedSects::new(heap);
     let mut is_refused = false;
     narrow(rt, heap, room);
-    for (closed, section) in SAMPLES.iter().enumerate() {
+    for (closed, section) in samples(6).iter().enumerate() {
         is_refused |= push_some(rt, heap, &mut sects, section.2, closed);
         is_refused |= close_one(rt, heap, &mut sects, section, closed);
     }
@@ -101,7 +101,7 @@ fn is_refused(rt: &impl Abort, first: Result<PackedSubmission<&Bump>, Memory>) -
 
 /// Packs all sample sections, and once more with ample capacity. Returns whether the first was refused.
 fn packs(rt: &impl Abort, heap: &Bump, room: usize) -> bool {
-    let given = submission_of(rt, heap, &SAMPLES, 1);
+    let given = submission_of(rt, heap, samples(6), 1);
     narrow(rt, heap, room);
     let was_refused = is_refused(rt, packed(heap, &given));
     widen(heap);
@@ -129,7 +129,7 @@ fn is_unpack_refused<A: Allocator>(
 
 /// Unpacks all sample sections, and once more with ample capacity. Returns whether the first was refused.
 fn unpacks(rt: &impl Abort, heap: &Bump, room: usize) -> bool {
-    let all = packed_of(rt, heap, &SAMPLES, 1);
+    let all = packed_of(rt, heap, samples(6), 1);
     narrow(rt, heap, room);
     let was_refused = is_unpack_refused(rt, &all, unpacked(heap, &all));
     widen(heap);

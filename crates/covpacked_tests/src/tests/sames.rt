@@ -9,8 +9,20 @@ use covpacked::PackedSubmission;
 use std::process::Abort;
 use std::test::*;
 
-/// The samples: sections, and the number of inconsistent lines.
-const SAMPLES: [(&[Section<'static>], u64); 45] = [
+/// A sample: its sections, and the number of inconsistent lines.
+type Sample = (&'static [Section<'static>], u64);
+
+/// The samples, as several tables: the proof of a function that names a table grows faster than the table.
+fn tables() -> [&'static [Sample]; 3] {
+    [of_one_section(), of_several_sections(), of_one_item()]
+}
+
+/// Samples without a section, or with one.
+fn of_one_section() -> &'static [Sample] {
+    OF_ONE_SECTION
+}
+
+const OF_ONE_SECTION: &[Sample] = &[
     (&[], 0),
     (&[(b"t", b"a.c", &[10, 20, 30])], 0),
     (&[(b"t", b"a.c", &[10, 20, 34])], 0),
@@ -26,6 +38,17 @@ const SAMPLES: [(&[Section<'static>], u64); 45] = [
     (&[(b"", b"a.c", &[10, 20, 30])], 0),
     (&[(b"t", b"a.h", &[10, 20, 30])], 0),
     (&[(b"ta", b".c", &[10, 20, 30])], 0),
+    (&[(b"t", b"a.c", &[10, 20, 30])], 1),
+    (&[(b"t", b"a.c", &[10, 20, 30])], 4_294_967_296),
+    (&[(b"t", b"a.c", &[10, 20, 30])], 18_446_744_073_709_551_615),
+];
+
+/// Samples with several sections.
+fn of_several_sections() -> &'static [Sample] {
+    OF_SEVERAL_SECTIONS
+}
+
+const OF_SEVERAL_SECTIONS: &[Sample] = &[
     (&[(b"t", b"a.c", &[10, 20, 30]), (b"u", b"b.c", &[13])], 0),
     (&[(b"t", b"a.c", &[10, 20, 30]), (b"u", b"b.c", &[])], 0),
     (&[(b"t", b"a.c", &[10, 20, 30]), (b"t", b"b.c", &[13])], 0),
@@ -40,6 +63,14 @@ const SAMPLES: [(&[Section<'static>], u64); 45] = [
         ],
         0,
     ),
+];
+
+/// Samples with one item.
+fn of_one_item() -> &'static [Sample] {
+    OF_ONE_ITEM
+}
+
+const OF_ONE_ITEM: &[Sample] = &[
     (&[(b"t", b"a.c", &[10])], 0),
     (&[(b"t", b"a.c", &[11])], 0),
     (&[(b"t", b"a.c", &[12])], 0),
@@ -60,9 +91,6 @@ const SAMPLES: [(&[Section<'static>], u64); 45] = [
     (&[(b"t", b"a.c", &[34])], 0),
     (&[(b"t", b"a.c", &[35])], 0),
     (&[(b"t", b"a.c", &[36])], 0),
-    (&[(b"t", b"a.c", &[10, 20, 30])], 1),
-    (&[(b"t", b"a.c", &[10, 20, 30])], 4_294_967_296),
-    (&[(b"t", b"a.c", &[10, 20, 30])], 18_446_744_073_709_551_615),
 ];
 
 /// Whether `first` equals a sample. Packed and unpacked, the sample must compare alike.
@@ -80,18 +108,32 @@ fn is_sample(
 
 /// Compares `first`, the packed sample with this number, with each sample.
 fn check(rt: &(impl Abort + AllocGlobal), first: &PackedSubmission, number: usize) {
-    for (other, (sections, odd)) in SAMPLES.iter().enumerate() {
-        let is_equal = is_sample(rt, first, sections, *odd);
-        assert!(rt;
-            is_equal == (number == other),
-            "samples {number} and {other}"
-        );
+    let mut other = 0usize;
+    for table in tables() {
+        for (sections, odd) in table {
+            let is_equal = is_sample(rt, first, sections, *odd);
+            assert!(rt;
+                is_equal == (number == other),
+                "samples {number} and {other}"
+            );
+            other = other.wrapping_add(1);
+        }
+    }
+}
+
+/// Compares the samples of a table with each sample. The first one of the table has this number.
+fn check_table(rt: &(impl Abort + AllocGlobal), table: &[Sample], first: usize) {
+    for (place, (sections, odd)) in table.iter().enumerate() {
+        let sample = packed_of(rt, rt.alloc(), sections, *odd);
+        check(rt, &sample, first.wrapping_add(place));
     }
 }
 
 #[test]
 fn samples(rt: HostRuntime) {
-    for (number, (sections, odd)) in SAMPLES.iter().enumerate() {
-        check(&rt, &packed_of(&rt, rt.alloc(), sections, *odd), number);
+    let mut first = 0usize;
+    for table in tables() {
+        check_table(&rt, table, first);
+        first = first.wrapping_add(table.len());
     }
 }

@@ -12,7 +12,7 @@ use std::test::*;
 pub(super) type Section<'a> = (&'a [u8], &'a [u8], &'a [usize]);
 
 /// The sample sections. They have ten items in all.
-pub(super) const SAMPLES: [Section<'static>; 6] = [
+const SAMPLES: &[Section<'static>] = &[
     (b"t", b"a.c", &[0, 3]),
     (b"t", b"b.c", &[]),
     (b"", b"b.c", &[2, 4, 8]),
@@ -23,7 +23,7 @@ pub(super) const SAMPLES: [Section<'static>; 6] = [
 
 /// The first `count` sample sections.
 pub(super) fn samples(count: usize) -> &'static [Section<'static>] {
-    let all: &'static [Section<'static>] = &SAMPLES;
+    let all = SAMPLES;
     all.split_at(count.min(all.len())).0
 }
 

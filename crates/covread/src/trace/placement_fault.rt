@@ -4,7 +4,6 @@ ghost use Rattle.std.specs.Prelude.{◌≡◌};
 ghost use Rattle.covread.specs.declared.trace.placement_fault.PlacementFault.TheVariants.{Memory as NoMemory};
 
 use covdata::Memory;
-use std::alloc::AllocFailed;
 
 /// The reason why a reader rejects a line: the line is misplaced, or an allocation failed.
 #[derive(Clone, Copy)]
@@ -21,14 +20,6 @@ impl From<Memory> for PlacementFault {
     ghost from_gives = { λ _ e. e ≡ NoMemory };
 
     fn from(_refused: Memory) -> PlacementFault {
-        PlacementFault::Memory
-    }
-}
-
-impl<T: Drop> From<AllocFailed<T>> for PlacementFault {
-    ghost from_gives = { λ _ e. e ≡ NoMemory };
-
-    fn from(_refused: AllocFailed<T>) -> PlacementFault {
         PlacementFault::Memory
     }
 }

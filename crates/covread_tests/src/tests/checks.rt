@@ -21,12 +21,9 @@ fn check(
 }
 
 #[test]
-fn checked_inputs(rt: HostRuntime) -> Result<(), Fail> {
+fn checked_tracefiles(rt: HostRuntime) -> Result<(), Fail> {
     for (text, wanted) in TRACEFILES {
         check(&rt, checked(rt.alloc(), text), wanted)?;
-    }
-    for (text, wanted) in ANNOTATED_SOURCE {
-        check(&rt, checked_gcov(rt.alloc(), text), wanted)?;
     }
     Ok(())
 }
@@ -101,6 +98,14 @@ end_of_record
     (b"FNL:0,3,9\nSF:/a.c\n", b"OpenEnd\n"),
     (b"SF:/a.c\nFNL:0,3,9\nDA:1\n", b"BadLine at 3\n"),
 ];
+
+#[test]
+fn checked_annotated_source(rt: HostRuntime) -> Result<(), Fail> {
+    for (text, wanted) in ANNOTATED_SOURCE {
+        check(&rt, checked_gcov(rt.alloc(), text), wanted)?;
+    }
+    Ok(())
+}
 
 /// The second input is a tracefile, so all its lines are skipped.
 const ANNOTATED_SOURCE: &[(&[u8], &[u8])] = &[

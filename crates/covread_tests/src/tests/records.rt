@@ -35,24 +35,32 @@ fn bytes(rt: HostRuntime) -> Result<(), Fail> {
     Ok(())
 }
 
-/// Printed records are appended to the text. Their numbers are the largest that fit. A skipped line isn't printed.
+/// Records whose numbers are the largest that fit. A skipped line isn't printed.
+const LARGEST: &[TraceLine<'static>] = &[
+    TraceLine::Skip,
+    TraceLine::FuncCount {
+        count: u128::MAX,
+        name: b"g(int, int)",
+    },
+    TraceLine::Total {
+        kind: TotalKind::LineHit,
+        value: u64::MAX,
+    },
+];
+
+/// Appends the printed records.
+fn put_records(records: &[TraceLine<'_>], text: &mut Bytes) -> Result<(), Memory> {
+    for record in records {
+        put_line(record, text)?;
+    }
+    Ok(())
+}
+
+/// Printed records are appended to the text.
 #[test]
 fn printed_records(rt: HostRuntime) -> Result<(), Fail> {
-    let records = [
-        TraceLine::Skip,
-        TraceLine::FuncCount {
-            count: u128::MAX,
-            name: b"g(int, int)",
-        },
-        TraceLine::Total {
-            kind: TotalKind::LineHit,
-            value: u64::MAX,
-        },
-    ];
     let mut text = bytes_of(rt.alloc(), b"#\n")?;
-    for record in &records {
-        put_line(record, &mut text)?;
-    }
+    put_records(LARGEST, &mut text)?;
     check_bytes(
         &rt,
         text.get(),
@@ -159,12 +167,18 @@ const RECORDS: &[(&[u8], &[u8])] = &[
     (b"LH:6", b"LH:6\n"),
 ];
 
+/// Checks the printed record of the line.
+fn check_record(rt: &(impl Abort + AllocGlobal), line: &[u8], wanted: &[u8]) -> Result<(), Memory> {
+    let mut printed = Bytes::new(rt.alloc());
+    put_read(line, &mut printed)?;
+    check_bytes(rt, printed.get(), wanted);
+    Ok(())
+}
+
 #[test]
 fn read_records(rt: HostRuntime) -> Result<(), Fail> {
     for (line, wanted) in RECORDS {
-        let mut printed = Bytes::new(rt.alloc());
-        put_read(line, &mut printed)?;
-        check_bytes(&rt, printed.get(), wanted);
+        check_record(&rt, line, wanted)?;
     }
     Ok(())
 }
@@ -191,12 +205,18 @@ const LINES_OF_TEXTS: &[(&[u8], &[u8])] = &[
     (b"a\n\rb\r", b"a|\rb|"),
 ];
 
+/// Checks the lines of the text.
+fn check_lines(rt: &(impl Abort + AllocGlobal), text: &[u8], wanted: &[u8]) -> Result<(), Memory> {
+    let mut joined = Bytes::new(rt.alloc());
+    put_lines(text, &mut joined)?;
+    check_bytes(rt, joined.get(), wanted);
+    Ok(())
+}
+
 #[test]
 fn lines_of_texts(rt: HostRuntime) -> Result<(), Fail> {
     for (text, wanted) in LINES_OF_TEXTS {
-        let mut joined = Bytes::new(rt.alloc());
-        put_lines(text, &mut joined)?;
-        check_bytes(&rt, joined.get(), wanted);
+        check_lines(&rt, text, wanted)?;
     }
     Ok(())
 }
@@ -345,13 +365,18 @@ fn check_copied_items(rt: &(impl Abort + AllocGlobal), sects: &[Sect]) -> Result
     Ok(())
 }
 
+/// Checks a copy of the sections of `TWO`.
+fn check_copy(rt: &(impl Abort + AllocGlobal), sects: &Sects) -> Result<(), Fail> {
+    let copy = copied_sects(rt.alloc(), sects)?;
+    check_sects(rt, copy.get(), TWO)?;
+    check_copied_items(rt, copy.get())
+}
+
 #[test]
 fn lists_and_their_copies(rt: HostRuntime) -> Result<(), Fail> {
     let sects = sects_of(rt.alloc(), TEXTS_OF_TWO)?;
     check_sects(&rt, sects.get(), TWO)?;
-    let copy = copied_sects(rt.alloc(), &sects)?;
-    check_sects(&rt, copy.get(), TWO)?;
-    check_copied_items(&rt, copy.get())
+    check_copy(&rt, &sects)
 }
 
 /// A submission with the sections of `TWO` and 14 inconsistent lines.
@@ -369,12 +394,16 @@ fn check_two(rt: &(impl Abort + AllocGlobal), submission: &Submission) -> Result
     check_sects(rt, submission.sects(), TWO)
 }
 
+/// Checks a copy of the submission.
+fn check_copied_two(rt: &(impl Abort + AllocGlobal), submission: &Submission) -> Result<(), Fail> {
+    check_two(rt, &copied_submission(rt.alloc(), submission)?)
+}
+
 #[test]
 fn lawful_submissions(rt: HostRuntime) -> Result<(), Fail> {
     let submission = of_two(rt.alloc())?;
     check_two(&rt, &submission)?;
-    let copy = copied_submission(rt.alloc(), &submission)?;
-    check_two(&rt, &copy)
+    check_copied_two(&rt, &submission)
 }
 
 /// Makes a submission of the sections. If a name or a checksum is rejected, returns the sections and the index of the first section
@@ -483,11 +512,21 @@ fn numbers_of_other_faults(rt: HostRuntime) {
     assert!(rt; BadSubmission::BadText { sect: 7 }.number() == 2);
 }
 
+/// Checks that the input, read as a packed submission, is this submission.
+fn check_packed(
+    rt: &(impl Abort + AllocGlobal),
+    text: &[u8],
+    wanted: &Submission,
+) -> Result<(), Fail> {
+    assert!(rt; is_packed(&read_packed(rt.alloc(), text)?, wanted));
+    Ok(())
+}
+
 /// Checks the sections of an input that is read as a submission and as a packed submission. No line may be inconsistent.
 fn check_read(rt: &(impl Abort + AllocGlobal), text: &[u8], wanted: &[u8]) -> Result<(), Fail> {
     let submission = read(rt.alloc(), text)?;
     assert_eq!(rt; submission.odd(), 0);
-    assert!(rt; is_packed(&read_packed(rt.alloc(), text)?, &submission));
+    check_packed(rt, text, &submission)?;
     check_sects(rt, submission.sects(), wanted)
 }
 

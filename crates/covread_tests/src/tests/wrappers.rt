@@ -94,6 +94,12 @@ pub(super) fn is_packed(packed: &PackedSubmission, given: &Submission) -> bool {
     packed.is_same_as(given)
 }
 
+/// Appends the records of a function.
+fn put_function(name: &[u8], line: u64, count: u128, text: &mut Bytes) -> Result<(), Memory> {
+    put_line(&TraceLine::FuncStart { line, name }, text)?;
+    put_line(&TraceLine::FuncCount { count, name }, text)
+}
+
 /// Appends the records of an item. A function has two records: its start line and its count.
 fn put_item(item: &Item, text: &mut Bytes) -> Result<(), Memory> {
     match item {
@@ -110,10 +116,7 @@ fn put_item(item: &Item, text: &mut Bytes) -> Result<(), Memory> {
             text,
         ),
         Item::Func { name, line, count } => {
-            let name = name.get();
-            put_line(&TraceLine::FuncStart { line: *line, name }, text)?;
-            let count = u128::from(*count);
-            put_line(&TraceLine::FuncCount { count, name }, text)
+            put_function(name.get(), *line, u128::from(*count), text)
         }
         Item::Branch {
             line,

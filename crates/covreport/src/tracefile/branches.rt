@@ -6,21 +6,20 @@ ghost use Rattle.covdata.specs.Printed.{printed};
 ghost use Rattle.covreport.specs.Report.{branch_records};
 ghost use Rattle.covtable.specs.Value.{is_taken as value_is_taken};
 
-use super::front::Front;
 use super::record::put_branch;
 use super::totals::put_totals_if_any;
 use crate::printer::Printer;
-use covdata::{Tally, TotalKind};
+use covdata::{RecordBuffer, Tally, TotalKind};
 use covtable::TableSection;
 
 /// Prints the branch records of a section, and the section's branch totals.
 pub(super) fn put_branches<'s, C: TableSection<'s>, P: Printer>(section: &C, out: &mut P)
     ensures { P.text out.new ≡ P.text out.old ++ flat_map printed (branch_records (C.shown section.now).branches) }
 {
-    let mut front = Front::of(b'\n');
+    let mut record = RecordBuffer::new();
     let mut tally = Tally::NONE;
     for branch in section.branches() {
-        put_branch(&branch, &mut front, out);
+        put_branch(&branch, &mut record, out);
         tally = tally.and(is_taken(branch.taken));
     }
     put_totals_if_any(TotalKind::BranchFound, TotalKind::BranchHit, tally, out);

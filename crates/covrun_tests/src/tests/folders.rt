@@ -4,8 +4,8 @@
 ghost use Rattle.std.specs.Prelude.{◌≡◌, ◌≢◌, None, Some};
 
 use super::outputs::NoFiles;
-use super::{Told, check_text, kept_sinks, words_of};
-use covrun::{Folder, Opened, World, run};
+use super::{Told, check_text, kept_sinks, run, words_of};
+use covrun::{Folder, Noted, Opened, World};
 use covstream::{Failed, FromRead, Source};
 use std::process::Abort;
 use std::sync::Wait;
@@ -66,6 +66,7 @@ impl<'a> Folder for OneFile<'a> {
         Ok(Opened {
             source: FromRead::new(self.text),
             awaited: 0,
+            name: Noted::none().and(name.as_bytes()),
         })
     }
 }
@@ -135,13 +136,14 @@ impl Folder for TornFiles {
 
     type File = Torn;
 
-    fn open(&self, _name: &str) -> Result<Opened<Torn>, Failed> {
+    fn open(&self, name: &str) -> Result<Opened<Torn>, Failed> {
         Ok(Opened {
             source: Torn {
                 reads: 0,
                 failed: 0,
             },
             awaited: 0,
+            name: Noted::none().and(name.as_bytes()),
         })
     }
 }

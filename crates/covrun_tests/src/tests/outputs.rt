@@ -1,11 +1,11 @@
 //! Runs with an output file (`--output`).
 
-ghost use Rattle.std.specs.Prelude.{◌≡◌, ◌<◌, ◌^◌, None, Some, map, option_map};
+ghost use Rattle.std.specs.Prelude.{◌≡◌, ◌<◌, ◌^◌, [], None, Some, map, option_map};
 ghost use Rattle.std.specs.String.{string_bytes};
 
 use super::folders::OneFile;
-use super::{Told, check_text, kept_sinks, words_of};
-use covrun::{OutputFault, OutputFolder, World, run};
+use super::{Told, check_text, kept_sinks, run, words_of};
+use covrun::{OutputFault, OutputFolder, World};
 use covstream::{Failed, FromRead, FromWrite, Sink};
 use std::alloc::Global;
 use std::process::Abort;
@@ -22,9 +22,13 @@ pub(super) struct NoFiles {
 impl OutputFolder for NoFiles {
     ghost finished = { λ _. None };
 
+    ghost names = { λ _. [] };
+
     ghost begun = { λ _. None };
 
     ghost failed = { λ f. f.failed };
+
+    ghost may_refuse = { λ _ _. Unit {0} };
 
     type File = FromWrite<Vec<u8>>;
 
@@ -63,9 +67,13 @@ struct Shelf {
 impl OutputFolder for Shelf {
     ghost finished = { λ s. Some (map (λ k. (string_bytes k.name, k.text.items)) s.files.items) };
 
+    ghost names = { λ s. map (λ k. string_bytes k.name) s.files.items };
+
     ghost begun = { λ s. option_map string_bytes s.begun };
 
     ghost failed = { λ s. s.failed };
+
+    ghost may_refuse = { λ _ _. ⊥ };
 
     type File = FromWrite<Vec<u8>>;
 
@@ -240,9 +248,13 @@ struct Shorts {
 impl OutputFolder for Shorts {
     ghost finished = { λ _. None };
 
+    ghost names = { λ _. [] };
+
     ghost begun = { λ s. option_map string_bytes s.begun };
 
     ghost failed = { λ s. s.failed };
+
+    ghost may_refuse = { λ _ _. ⊥ };
 
     type File = Short;
 
@@ -258,7 +270,8 @@ impl OutputFolder for Shorts {
 
     fn finish(&mut self, _file: Short) -> Result<(), OutputFault> {
         self.begun = None;
-        Ok(())
+        self.failed += 1;
+        Err(OutputFault::Failed)
     }
 
     fn abandon(&mut self, _file: Short) {

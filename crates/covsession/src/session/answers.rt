@@ -3,7 +3,7 @@
 ghost use Rattle.std.specs.Prelude.{◌≡◌, ◌≢◌, ◌^◌, ◌<◌, codes, decimal, IfOk, IfErr, OnOk, ◌++◌};
 ghost use Rattle.covbook.specs.Op.{AcceptedAnswer, DroppedAnswer, RenamedAnswer};
 ghost use Rattle.covbook.specs.View.{answer_data};
-ghost use Rattle.covsession.specs.Session.{answer_text, clash_text, line_fault_name, fault_text, refused_text};
+ghost use Rattle.covsession.specs.Session.{answer_text, clash_text, fault_text, refused_text};
 ghost use Rattle.covsession.specs.Broken.{Breaks};
 ghost use Rattle.covsession.specs.Streams.{Says};
 ghost use Rattle.covsession.specs.declared.session.fault.SessionFault.TheVariants as session_faults;
@@ -11,10 +11,18 @@ ghost use Rattle.covsession.specs.declared.session.fault.SessionFault.TheVariant
 use crate::session::fault::SessionFault;
 use crate::session::output::Output;
 use covbook::Answer;
-use covdata::{LineFault, ReadFault};
+use covdata::{ReadFault, append_number};
 use covstream::Sink;
-use itoa::Buffer;
 use std::alloc::Allocator;
+
+/// The answer to a command that the input ends in.
+pub const UNFINISHED: &[u8] = b"unfinished\n";
+
+/// The answer to a choice of files whose pattern is too long. Needs no memory, unlike `refused_line`.
+pub const REFUSED_PATTERN: &[u8] = b"refused TooLong\n";
+
+/// The answer to a line that is no command.
+pub const UNKNOWN: &[u8] = b"unknown\n";
 
 // Appends `words` and then `number` in decimal.
 fn add_number<A: Allocator>(
@@ -26,7 +34,7 @@ fn add_number<A: Allocator>(
     ensures fault { IfErr result (λ f. f ≡ session_faults.Memory) }
 {
     line.extend_from_slice(words)?;
-    line.extend_from_slice(Buffer::new().format(number).as_bytes())?;
+    append_number(line, number)?;
     Ok(())
 }
 
@@ -108,17 +116,6 @@ fn renamed_line<A: Allocator>(alloc: A, sections: u64) -> Result<Vec<u8, A>, Ses
     Ok(line)
 }
 
-// The name of a line's error.
-fn line_fault_text(fault: LineFault) -> &'static [u8]
-    ensures { result.now ≡ line_fault_name fault }
-{
-    match fault {
-        LineFault::BadLine => b"BadLine",
-        LineFault::NumberTooLarge => b"NumberTooLarge",
-        LineFault::EmptyPath => b"EmptyPath",
-    }
-}
-
 // An error's name and the number of its line.
 fn text_at<A: Allocator>(alloc: A, name: &[u8], at: u64) -> Result<Vec<u8, A>, SessionFault>
     ensures words { IfOk result (λ text. text.items ≡ name.now ++ codes " at " ++ decimal at) }
@@ -144,7 +141,7 @@ fn fault_words<A: Allocator>(alloc: A, fault: ReadFault) -> Result<Vec<u8, A>, S
 {
     match fault {
         ReadFault::TooLong => text_alone(alloc, b"TooLong"),
-        ReadFault::Line { at, fault } => text_at(alloc, line_fault_text(fault), at),
+        ReadFault::Line { at, fault } => text_at(alloc, fault.name().as_bytes(), at),
         ReadFault::Outside { at } => text_at(alloc, b"Outside", at),
         ReadFault::Inside { at } => text_at(alloc, b"Inside", at),
         ReadFault::OpenEnd => text_alone(alloc, b"OpenEnd"),

@@ -14,7 +14,7 @@ ghost use Rattle.covsession.specs.declared.session.fault.SessionFault.TheVariant
 mod word;
 
 use crate::session::SessionBook;
-use crate::session::answers::say_answer;
+use crate::session::answers::{REFUSED_PATTERN, UNFINISHED, UNKNOWN, say_answer};
 use crate::session::fault::SessionFault;
 use crate::session::output::Output;
 use covbook::Op;
@@ -103,14 +103,14 @@ pub fn answer_word<O: Sink, A: Allocator + Copy, T: Table<A>>(
         Word::Summary => step(alloc, book, &Op::Summary, output),
         Word::Choose(pick, pattern) => match patterns_of(alloc, pattern)? {
             Some(patterns) => step(alloc, book, &op_of(pick, patterns), output),
-            None => output.say(b"refused TooLong\n"),
+            None => output.say(REFUSED_PATTERN),
         },
         Word::Drop(test) => {
             let op = drop_op(alloc, test)?;
             step(alloc, book, &op, output)
         }
-        Word::Rename => output.say(b"unfinished\n"),
-        Word::Text(_) => output.say(b"unfinished\n"),
-        Word::Other => output.say(b"unknown\n"),
+        Word::Rename => output.say(UNFINISHED),
+        Word::Text(_) => output.say(UNFINISHED),
+        Word::Other => output.say(UNKNOWN),
     }
 }

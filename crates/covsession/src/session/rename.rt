@@ -11,6 +11,7 @@ ghost use Rattle.covsession.specs.Run.{TakesAfter};
 ghost use Rattle.covsession.specs.declared.session.fault.SessionFault.TheVariants as session_faults;
 
 use crate::session::SessionBook;
+use crate::session::answers::UNFINISHED;
 use crate::session::command::step;
 use crate::session::fault::SessionFault;
 use crate::session::input::SessionInput;
@@ -110,7 +111,7 @@ pub fn answer_rename<I: Source, O: Sink, A: Allocator + Copy, T: Table<A>>(
         ⊎ FailsAfter (λ line. line ≡ codes "rename") (moment input.old output.old) (moment input.new output.new) (ops_in book.old.entries) f) }
 {
     let Some(names) = take_names(alloc, input, output)? else {
-        output.say(b"unfinished\n")?;
+        output.say(UNFINISHED)?;
         return Ok(LineEnd::Input);
     };
     let Names { old, new, ending } = names;

@@ -14,7 +14,7 @@ ghost use Rattle.covsession.specs.Text.{asked_for, AnswersAs, IsAnsweredAs, IsTa
 ghost use Rattle.covsession.specs.declared.session.fault.SessionFault.TheVariants as session_faults;
 
 use crate::session::SessionBook;
-use crate::session::answers::refused_line;
+use crate::session::answers::{UNFINISHED, refused_line};
 use crate::session::command::{Format, step};
 use crate::session::fault::SessionFault;
 use crate::session::input::SessionInput;
@@ -166,6 +166,6 @@ pub fn answer_given<O: Sink, A: Allocator + Copy, T: Table<A>>(
             submit(alloc, book, read, output)
         }
         CollectedText::TooLong => refuse(alloc, ReadFault::TooLong, output),
-        CollectedText::Unfinished => output.say(b"unfinished\n"),
+        CollectedText::Unfinished => output.say(UNFINISHED),
     }
 }

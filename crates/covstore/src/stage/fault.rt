@@ -1,7 +1,7 @@
 //! Why the items of a section can't be staged.
 
 use covdata::{Bytes, Memory};
-use std::alloc::{AllocError, AllocFailed, Allocator};
+use std::alloc::{AllocError, Allocator};
 
 /// Why the items of a section can't be staged.
 #[derive(Drop)]
@@ -34,17 +34,6 @@ impl<A: Allocator> From<AllocError> for StageFault<A> {
     ghost from_gives = { λ _ e. e ≡ stops.Memory };
 
     fn from(_refused: AllocError) -> StageFault<A> {
-        StageFault::Memory
-    }
-}
-
-impl<T: Drop, A: Allocator> From<AllocFailed<T>> for StageFault<A> {
-    ghost use Rattle.std.specs.Prelude.{◌≡◌};
-    ghost use Rattle.covstore.specs.declared.stage.fault.StageFault.TheVariants as stops;
-
-    ghost from_gives = { λ _ e. e ≡ stops.Memory };
-
-    fn from(_refused: AllocFailed<T>) -> StageFault<A> {
         StageFault::Memory
     }
 }

@@ -1,14 +1,12 @@
-use Rattle.std.proofs.lemmas.Result.{IfOk-weaker}
 use Rattle.covcommand.specs.CommandLine as line
-use Rattle.covcommand.proofs.Arguments.{added_subcommand}
 use Rattle.covcommand.proofs.described.described.Goals as goal
 
 pub returns : goal.returns
 returns c =
-    let with_merge = added_subcommand line.merge _ _ _ c.program.ensures c.merge.ensures c.in_ok-merging.ensures in
-    let with_summary = added_subcommand line.summary _ _ _ with_merge c.summary.ensures c.in_ok-summing.ensures in
-    let with_list = added_subcommand line.list _ _ _ with_summary c.list.ensures c.in_ok-listing.ensures in
-    let with_extract = added_subcommand line.extract _ _ _ with_list c.extract.ensures c.in_ok-extracting.ensures in
-    let with_remove = added_subcommand line.remove _ _ _ with_extract c.remove.ensures c.in_ok-removing.ensures in
-    let with_gcov = added_subcommand line.gcov _ _ _ with_remove c.gcov.ensures c.in_ok-converting.ensures in
-    IfOk-weaker c.with-7.result _ _ (λ r h. added_subcommand line.check _ _ r with_gcov c.check.ensures h) c.with-7.ensures
+    let with_merge = c.with-merging.ensures line.program line.merge c.program.ensures c.merge.ensures in
+    let with_summary = c.with-summing.ensures _ line.summary with_merge c.summary.ensures in
+    let with_list = c.with-listing.ensures _ line.list with_summary c.list.ensures in
+    let with_extract = c.with-extracting.ensures _ line.extract with_list c.extract.ensures in
+    let with_remove = c.with-removing.ensures _ line.remove with_extract c.remove.ensures in
+    let with_gcov = c.with-converting.ensures _ line.gcov with_remove c.gcov.ensures in
+    c.with.ensures _ line.check with_gcov c.check.ensures

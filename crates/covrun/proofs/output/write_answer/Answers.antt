@@ -26,7 +26,7 @@ returns-in-Ok-write_file g c =
       (
         refl,
         answer_written c.args.name.now c.args.answer.shortfalls _ c.args.answer.text _ _ _ c.get.ensures c.say_shortfalls.ensures.status
-            (c.in-Ok-write_file.ensures.finished, c.write_file.ensures.none ∙ sym begun, c.in-Ok-write_file.ensures.good)
+            (c.in-Ok-write_file.ensures.finished, c.in-Ok-write_file.ensures.named, c.write_file.ensures.none ∙ sym begun, c.in-Ok-write_file.ensures.good)
             c.say_shortfalls.ensures.none c.say_shortfalls.ensures.withheld c.say_shortfalls.ensures.said,
       ),
     )
@@ -41,7 +41,7 @@ returns-in-Err-Failed g c =
       (
         refl,
         answer_unwritten c.args.name.now c.args.answer.shortfalls c.args.answer.text _ _ _ _ (c.get-in-Err-Failed.ensures ∙ c.in-Ok.ensures) c.complain.ensures.status
-            (c.in-Err-Failed.ensures.same, c.write_file.ensures.none ∙ sym begun, counted) c.complain.ensures.withheld c.complain.ensures.said,
+            (c.in-Err-Failed.ensures.same, c.in-Err-Failed.ensures.unnamed, c.write_file.ensures.none ∙ sym begun, counted) c.complain.ensures.withheld c.complain.ensures.said,
       ),
     )
 
@@ -54,5 +54,5 @@ returns g c =
       Stopped session_faults.Memory,
       inl refl,
       failure_reported (Some c.args.name.now) (failures.Stopped session_faults.Memory) _ _ _
-          (refl, λ k. output_files (c.in-Err-Memory.ensures.same k) ((c.write_file.ensures.none ∙ sym begun) k) (counted k)) c.say_failure-in-Err-Memory.ensures,
+          (refl, λ k. output_files (c.in-Err-Memory.ensures.same k) (c.in-Err-Memory.ensures.unnamed k) ((c.write_file.ensures.none ∙ sym begun) k) (counted k)) c.say_failure-in-Err-Memory.ensures,
     )

@@ -1,9 +1,8 @@
-use Rattle.std.specs.Prelude.{◌≡◌}
-use Rattle.std.specs.List.{list_any}
-use Rattle.covreport.specs.Pattern.{matches}
+use Rattle.std.specs.Prelude.{◌≡◌, drop, map}
+use Rattle.covtable.specs.ValuesView.{file_totals_data}
 use Rattle.covrun.specs.Strict.{is_matched}
 use Rattle.covrun.proofs.strict.matches_a_file.Given as goal
 
 -- none of the files so far is matched, so the further files decide the result
 abbrev pub invariant-loop-file : goal.invariant-loop-file
-invariant-loop-file l = list_any (λ f. matches l.pattern f.path) l.file-iterator ≡ is_matched l.store.sections l.pattern
+invariant-loop-file l = is_matched (map file_totals_data (drop l.file-index l.files)) l.pattern ≡ is_matched (map file_totals_data l.files) l.pattern

@@ -1,7 +1,7 @@
 use Rattle.covstore.proofs.Words.{ℕ, ◌+◌, ◌<◌, ◌^◌, Bool, true, false, cond, Vec, List, ◌∷◌, length, refl, sym, ap, ◌∙◌, subst, arith, length-map, File, file_committed, files_committed, FileData}
 use Rattle.std.specs.Prelude.{◌≡◌}
 use Rattle.std.specs.Int.{from_bool}
-use Rattle.covstore.proofs.DropsTotals.{AreCounted, all_counted, none_counted, one_counted, one_section_fits}
+use Rattle.covstore.proofs.DropsSections.{AreCounted, all_counted, none_counted, one_counted, one_section_fits}
 use Rattle.covstore.proofs.Settled.{file_name}
 use Rattle.covstore.proofs.all_files.count_sections.Goals as goal
 

@@ -1,5 +1,5 @@
 use Rattle.covstore.specs.StoreView.{files_committed}
-use Rattle.covstore.proofs.DropsTotals.{AreCounted}
+use Rattle.covstore.proofs.DropsSections.{AreCounted}
 use Rattle.covstore.proofs.Settled.{file_name}
 use Rattle.covstore.proofs.all_files.count_sections.Given as goal
 

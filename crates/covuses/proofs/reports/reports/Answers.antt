@@ -3,4 +3,4 @@ use Rattle.covreport.specs.Summary.{summary_of}
 use Rattle.covuses.proofs.reports.reports.Goals as goal
 
 pub returns-clause-summary : goal.returns-clause-summary
-returns-clause-summary c = c.in_ok-summary.ensures ∙ ap summary_of c.totals.ensures.value
+returns-clause-summary g c = c.in_ok-summary.ensures ∙ ap summary_of c.totals.ensures.value

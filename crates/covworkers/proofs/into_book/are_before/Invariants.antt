@@ -1,7 +1,7 @@
 use Rattle.std.specs.Prelude.{take}
 use Rattle.std.specs.List.{AllByRecursion}
 use Rattle.covbook.specs.Kept.{IsPrefix}
-use Rattle.covworkers.specs.Latest.{history_of}
+use Rattle.covlock.specs.Latest.{history_of}
 use Rattle.covworkers.proofs.into_book.are_before.Given as goal
 
 -- the latest news so far are of beginnings of the history

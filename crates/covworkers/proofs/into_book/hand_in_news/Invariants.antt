@@ -1,7 +1,7 @@
 use Rattle.std.specs.Prelude.{◌≡◌, ◌++◌, map}
 use Rattle.std.specs.List.{AllByRecursion}
 use Rattle.covbook.specs.Kept.{IsKeptWell}
-use Rattle.covworkers.specs.Latest.{history_of}
+use Rattle.covlock.specs.Latest.{history_of}
 use Rattle.covworkers.specs.Work.{kept_of, seats_in, refused_in}
 use Rattle.covworkers.proofs.into_book.hand_in_news.Given as goal
 

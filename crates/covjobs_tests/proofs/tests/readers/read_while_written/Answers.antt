@@ -1,9 +1,9 @@
 use borrow.Author.Rules.{rules}
-use denote.Param.Send.{IsSync, sendable}
+use denote.Param.{param}
+use denote.Param.Send.{IsSend, IsSync, sendable}
 use Rattle.std.proofs.Crossing as heap
 use Rattle.covbook.proofs.entry.Entry.TheSendSync as entry
 use Rattle.covlock.proofs.Crossing.{shared_sync}
-use Rattle.covstore.proofs.Crossing.{store_send}
 use Rattle.covlock.proofs.seat.Seat.TheSendSync as seat
 use Rattle.covjobs_tests.proofs.tests.readers.read_while_written.Goals as goal
 
@@ -11,4 +11,5 @@ use Rattle.covjobs_tests.proofs.tests.readers.read_while_written.Goals as goal
 pub join-told-requires-send-F : goal.join-told-requires-send-F
 join-told-requires-send-F g c κs within =
     let runtime : IsSync g.row.R = search (rules, c.requires) parts 8 in
-    search (sendable, heap.crosses, shared_sync, store_send, entry.the_send, seat.the_send) depth 60 fits 20000
+    let stored : IsSend (param 2 g.row.T) = search (rules, c.requires) parts 8 in
+    search (sendable, heap.crosses, shared_sync, entry.the_send, seat.the_send) depth 60 fits 20000

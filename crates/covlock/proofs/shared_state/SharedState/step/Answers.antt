@@ -1,13 +1,14 @@
-use Rattle.std.proofs.Common.{◌≡◌, ◌∙◌, inr, List, [], ◌∷◌, ◌++◌, length, arith, ap, sym, refl, subst}
+use Rattle.std.proofs.Common.{◌≡◌, ◌∙◌, ◌≤◌, inr, List, [], ◌∷◌, ◌++◌, length, arith, ap, sym, refl, subst}
 use Rattle.std.proofs.lemmas.List.{length-append}
 use Rattle.std.proofs.lemmas.Result.{err_from_is_err_and}
 use Rattle.covbook.specs.declared.book.BookFault.TheVariants as faults
 use Rattle.covbook.specs.Op.{EntryData, ReceiptData}
 use Rattle.covbook.specs.EntryView.{entry_data, receipt_data}
-use Rattle.covbook.specs.Step.{IsLegal, next_entry}
+use Rattle.covbook.specs.Step.{IsLegal, max_entries, next_entry}
 use Rattle.covbook.specs.View.{op_data}
 use Rattle.covnews.specs.Publisher.{PublisherData}
-use Rattle.covlock.proofs.Steps.{comes_next, entry_after, err_tells, is_not_full, news_of, no_room_is_not_full, noted_is, ok_is_no_err, told_later}
+use Rattle.covlock.specs.Weight.{weight_below}
+use Rattle.covlock.proofs.Steps.{comes_next, counted_next, entry_after, err_tells, is_not_full, news_told, no_room_is_not_full, noted_is, ok_is_no_err, told_later}
 use Rattle.covlock.proofs.shared_state.SharedState.step.Goals as goal
 
 pub returns-clause-entry : goal.returns-clause-entry
@@ -25,13 +26,25 @@ returns-clause-seen g c =
 
 pub count_call-requires-clause-few : goal.count_call-requires-clause-few
 count_call-requires-clause-few g c =
-    let same : length c.ready.new.self.entries ≡ length c.self.inside.book.entries = ap (λ (xs : List EntryData). length xs) c.in_ok-ready.ensures.same.entries in
-    omega (arith, same, c.self.invariant.counted, c.in_ok-ready.ensures.ready.ready.room.few)
-
-pub count_call-requires-clause-place : goal.count_call-requires-clause-place
-count_call-requires-clause-place g c =
     let place : c.finish-receipt.result.place ≡ length c.ready.new.self.entries = ap (λ (r : ReceiptData). r.place) c.finish-receipt.ensures.receipt in
     omega (arith, place, c.in_ok-ready.ensures.ready.ready.room.few)
+
+pub count_call-requires-clause-seen : goal.count_call-requires-clause-seen
+count_call-requires-clause-seen g c =
+    let place : c.finish-receipt.result.place ≡ length c.ready.new.self.entries = ap (λ (r : ReceiptData). r.place) c.finish-receipt.ensures.receipt in
+    let same : length c.ready.new.self.entries ≡ length c.self.inside.book.entries = ap (λ (xs : List EntryData). length xs) c.in_ok-ready.ensures.same.entries in
+    omega (arith, place, same, c.len.ensures.value, c.seen.ensures, c.if-len-seen.false)
+
+pub count_call-requires-clause-news : goal.count_call-requires-clause-news
+count_call-requires-clause-news g c =
+    let made = c.in_ok-ready.ready.entry in
+    let published =
+    noted_is c.self.inside.publisher.noted c.ready.new.self.entries c.finish-receipt.new.self.entries c.publish-news.result (entry_data c.entry.result.now) made
+    (c.self.invariant.all_noted ∙ sym c.in_ok-ready.ensures.same.entries) c.entry.ensures c.in_ok-ready.ensures.ready.ready.next c.finish-receipt.ensures.entry
+    (c.publish-news.ensures.news ∙ ap (λ (p : PublisherData). p.noted) c.in-Some.ensures.noted) in
+    news_told c.args.seat.now.job (op_data c.finish-receipt.result.op) made (receipt_data c.finish-receipt.result) c.args.self.now c.ready.new.self.entries c.finish-receipt.new.self.entries c.publish-news.result
+    (c.in_ok-ready.ensures.same.entries ∙ c.self.view_is) (c.in_ok-ready.ensures.ready.job ∙ c.job.ensures) (sym (ap (λ (r : ReceiptData). r.op) c.finish-receipt.ensures.receipt)) c.finish-receipt.ensures.entry
+    c.finish-receipt.ensures.legal c.finish-receipt.ensures.receipt published
 
 pub finish-receipt-requires : goal.finish-receipt-requires
 finish-receipt-requires g c = c.in_ok-ready.ensures.ready.ready
@@ -111,9 +124,10 @@ returns-in_default-clause-most g c =
 pub invariant_of-self : goal.invariant_of-self
 invariant_of-self g c = record {
   legal = c.in_err-ready.ensures.legal;
+  few = subst (λ (xs : List EntryData). length xs ≤ max_entries) (sym c.in_err-ready.ensures.same.entries) c.self.invariant.few;
   all_noted = c.self.invariant.all_noted ∙ sym c.in_err-ready.ensures.same.entries;
   all_published = c.self.invariant.all_published ∙ sym c.in_err-ready.ensures.same.entries;
-  counted = c.self.invariant.counted ∙ sym (ap (λ (xs : List EntryData). length xs) c.in_err-ready.ensures.same.entries);
+  counted = c.self.invariant.counted ∙ sym (ap (λ (xs : List EntryData). weight_below (length xs)) c.in_err-ready.ensures.same.entries);
   no_part = c.self.invariant.no_part;
   no_amount = c.self.invariant.no_amount;
 }
@@ -133,9 +147,10 @@ note-requires-clause-next g c =
 pub invariant_of-self-in_default : goal.invariant_of-self-in_default
 invariant_of-self-in_default g c = record {
   legal = c.in_ok-ready.ensures.legal;
+  few = subst (λ (xs : List EntryData). length xs ≤ max_entries) (sym c.in_ok-ready.ensures.same.entries) c.self.invariant.few;
   all_noted = ap (λ (p : PublisherData). p.noted) c.in_default.ensures.none ∙ c.self.invariant.all_noted ∙ sym c.in_ok-ready.ensures.same.entries;
   all_published = ap (λ (p : PublisherData). p.published) c.in_default.ensures.none ∙ c.self.invariant.all_published ∙ sym c.in_ok-ready.ensures.same.entries;
-  counted = c.self.invariant.counted ∙ sym (ap (λ (xs : List EntryData). length xs) c.in_ok-ready.ensures.same.entries);
+  counted = c.self.invariant.counted ∙ sym (ap (λ (xs : List EntryData). weight_below (length xs)) c.in_ok-ready.ensures.same.entries);
   no_part = c.self.invariant.no_part;
   no_amount = c.self.invariant.no_amount;
 }
@@ -148,8 +163,10 @@ returns-clause-published g c =
 
 pub returns-clause-news : goal.returns-clause-news
 returns-clause-news g c =
-    news_of c.args.seat.now.job (op_data c.args.op.now) (receipt_data c.finish-receipt.result) c.args.self.now c.finish-receipt.new.self.entries c.publish-news.result
-    (returns-clause-published g c) c.finish-receipt.ensures.legal (returns-clause-entry g c) (returns-clause-told g c).receipt
+    let made = c.in_ok-ready.ready.entry in
+    news_told c.args.seat.now.job (op_data c.args.op.now) made (receipt_data c.finish-receipt.result) c.args.self.now c.ready.new.self.entries c.finish-receipt.new.self.entries c.publish-news.result
+    (c.in_ok-ready.ensures.same.entries ∙ c.self.view_is) (c.in_ok-ready.ensures.ready.job ∙ c.job.ensures) c.in_ok-ready.ensures.ready.op c.finish-receipt.ensures.entry c.finish-receipt.ensures.legal
+    c.finish-receipt.ensures.receipt (returns-clause-published g c)
 
 pub invariant_of-self-2 : goal.invariant_of-self-2
 invariant_of-self-2 g c =
@@ -157,12 +174,16 @@ invariant_of-self-2 g c =
     let behind = next_entry c.ready.new.self.entries made.entry.job made.entry.op ∷ [] in
     let same : length c.ready.new.self.entries ≡ length c.self.inside.book.entries = ap (λ (xs : List EntryData). length xs) c.in_ok-ready.ensures.same.entries in
     let grown : length c.finish-receipt.new.self.entries ≡ length (c.ready.new.self.entries ++ behind) = ap (λ (xs : List EntryData). length xs) c.finish-receipt.ensures.entry in
+    let place : c.finish-receipt.result.place ≡ length c.ready.new.self.entries = ap (λ (r : ReceiptData). r.place) c.finish-receipt.ensures.receipt in
     let noted : c.note.new.self.noted ≡ c.finish-receipt.new.self.entries = sym c.publish-news.ensures.news ∙ returns-clause-published g c in
     record {
       legal = c.finish-receipt.ensures.legal;
+      few = omega (arith, same, grown, length-append c.ready.new.self.entries behind, c.in_ok-ready.ensures.ready.ready.room.few);
       all_noted = ap (λ (p : PublisherData). p.noted) c.publish-news.ensures.published ∙ noted;
       all_published = ap (λ (p : PublisherData). p.published) c.publish-news.ensures.published ∙ noted;
-      counted = omega (arith, same, grown, length-append c.ready.new.self.entries behind, c.self.invariant.counted, c.count_call.ensures.total);
+      counted =
+          counted_next c.self.inside.book.entries c.finish-receipt.new.self.entries c.self.inside.count.total c.count_call.new.count.total c.finish-receipt.result.place c.self.invariant.counted
+          (omega (arith, same, grown, length-append c.ready.new.self.entries behind)) (omega (arith, place, same)) c.count_call.ensures.total;
       no_part = c.self.invariant.no_part;
       no_amount = c.self.invariant.no_amount;
     }

@@ -6,11 +6,11 @@ use Rattle.covreport.specs.ChoiceView.{choice_data}
 use Rattle.covrun.proofs.Endings.{text_then, totals_are_asked}
 use Rattle.covrun.proofs.question.Question.shortfalls.Goals as goal
 
-pub returns-in-LimitedTotals : goal.returns-in-LimitedTotals
-returns-in-LimitedTotals c =
+pub returns-in-ChosenTotals : goal.returns-in-ChosenTotals
+returns-in-ChosenTotals g c =
     let entries = c.args.collected.now.book.entries in
     let held = c.store.ensures in
-    rw c.in-LimitedTotals.is
+    rw c.in-ChosenTotals.is
     (text_then c.shortfall_lines.result _ _ c.shortfall_lines.ensures.lines
-    (ap (shortfalls (limits_data c.in-LimitedTotals.limits)) (c.chosen_totals-totals.ensures.value
-    ∙ totals_are_asked entries (choice_data c.in-LimitedTotals.choice) _ (ap (λ (s : ShownData). s.sections) held.store ∙ held.stands.content))))
+    (ap (shortfalls (limits_data c.in-ChosenTotals.limits)) (c.chosen_totals-totals.ensures.value
+    ∙ totals_are_asked entries (choice_data c.in-ChosenTotals.choice) _ (ap (λ (s : ShownData). s.sections) held.store ∙ held.stands.content))))

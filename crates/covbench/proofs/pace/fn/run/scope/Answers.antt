@@ -1,10 +1,10 @@
 use borrow.Author.Rules.{rules}
-use denote.Param.Send.{IsSync, sendable}
+use denote.Param.{param}
+use denote.Param.Send.{IsSend, IsSync, sendable}
 use Rattle.std.proofs.Crossing as heap
 use Rattle.covbook.proofs.op.Op.TheSendSync as op
 use Rattle.covbook.proofs.entry.Entry.TheSendSync as entry
 use Rattle.covlock.proofs.Crossing.{shared_sync}
-use Rattle.covstore.proofs.Crossing.{store_send}
 use Rattle.covbench.proofs.pace.Submitter.TheSendSync as submitter
 use Rattle.covbench.proofs.pace.fn.run.scope.Goals as goal
 
@@ -12,4 +12,5 @@ use Rattle.covbench.proofs.pace.fn.run.scope.Goals as goal
 pub spawn-started-requires-send-F : goal.spawn-started-requires-send-F
 spawn-started-requires-send-F g c κs within =
     let runtime : IsSync g.row.R = search (rules, c.requires) parts 8 in
-    search (sendable, heap.crosses, shared_sync, store_send, entry.the_send, op.the_sync, submitter.the_send) depth 60 fits 20000
+    let stored : IsSend (param 2 g.row.T) = search (rules, c.requires) parts 8 in
+    search (sendable, heap.crosses, shared_sync, entry.the_send, op.the_sync, submitter.the_send) depth 60 fits 20000

@@ -1,3 +1,4 @@
+use Rattle.std.proofs.Common.{rules}
 use Rattle.std.proofs.Common.{◌∙◌, None, ap, length, arith}
 use Rattle.std.specs.List.{insert}
 use Rattle.covmap.specs.Slots.{beside}
@@ -24,3 +25,6 @@ returns-clause-ok g c =
     ∙ ap (beside (insert keys c.args.index c.args.key)) (c.in_ok-insert-3.ensures.items ∙ ap (λ values. insert values c.args.index None) c.in_ok-reserve.ensures.items)
     ∙ beside_insert keys values c.args.index c.args.key (omega (arith, c.if-len-index.false, c.len.ensures, c.self.inside.values.ok.0)) c.self.invariant
     ∙ ap (λ slots. insert slots c.args.index (c.args.key, None)) c.self.view_is
+
+pub returns-in_err-insert-3-clause-err : goal.returns-in_err-insert-3-clause-err
+returns-in_err-insert-3-clause-err g c = search rules fits 100

@@ -1,11 +1,11 @@
 use borrow.Author.Rules.{rules}
-use denote.Param.Send.{IsSync, sendable}
+use denote.Param.{param}
+use denote.Param.Send.{IsSend, IsSync, sendable}
 use Rattle.std.proofs.Crossing as heap
 use Rattle.covbook.proofs.log.JobLog.TheSendSync as log
 use Rattle.covbook.proofs.op.Op.TheSendSync as op
 use Rattle.covbook.proofs.entry.Entry.TheSendSync as entry
 use Rattle.covlock.proofs.Crossing.{shared_sync}
-use Rattle.covstore.proofs.Crossing.{store_send}
 use Rattle.covlock.proofs.seat.Seat.TheSendSync as seat
 use Rattle.covjobs_tests.proofs.tests.threads.fn.ask_at_once.scope.Goals as goal
 
@@ -13,4 +13,5 @@ use Rattle.covjobs_tests.proofs.tests.threads.fn.ask_at_once.scope.Goals as goal
 pub spawn-requires-send-F : goal.spawn-requires-send-F
 spawn-requires-send-F g c κs within =
     let runtime : IsSync g.row.R = search (rules, c.requires) parts 8 in
-    search (sendable, heap.crosses, shared_sync, store_send, entry.the_send, seat.the_send, log.the_send, op.the_sync) depth 60 fits 20000
+    let stored : IsSend (param 2 g.row.T) = search (rules, c.requires) parts 8 in
+    search (sendable, heap.crosses, shared_sync, entry.the_send, seat.the_send, log.the_send, op.the_sync) depth 60 fits 20000

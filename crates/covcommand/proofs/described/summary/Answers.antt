@@ -1,0 +1,8 @@
+use Rattle.covcommand.proofs.described.summary.Goals as goal
+
+pub returns : goal.returns
+returns c =
+    let explained = c.explained-summary.ensures _ c.listing.ensures in
+    let with_lines = c.taking.ensures _ _ explained c.limit-lines.ensures in
+    let with_functions = c.taking-2.ensures _ _ with_lines c.limit-functions.ensures in
+    c.taking-3.ensures _ _ with_functions c.limit-branches.ensures

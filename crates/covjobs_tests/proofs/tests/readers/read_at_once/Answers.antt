@@ -1,0 +1,8 @@
+use denote.Param.Send.{sendable}
+use Rattle.std.proofs.Crossing as heap
+use Rattle.covstore.proofs.Crossing.{store_send}
+use Rattle.covjobs_tests.proofs.tests.readers.read_at_once.Goals as goal
+
+-- the store may go to another thread
+pub read_while_written-requires-send-T : goal.read_while_written-requires-send-T
+read_while_written-requires-send-T g c κs within = search (sendable, heap.crosses, store_send) depth 60 fits 20000

@@ -1,0 +1,8 @@
+use denote.Param.Send.{sendable}
+use Rattle.std.proofs.Crossing as heap
+use Rattle.covstore.proofs.Crossing.{store_send}
+use Rattle.covjobs_tests.proofs.tests.threads.four_threads.Goals as goal
+
+-- the store may go to another thread
+pub at_once-requires-send-T : goal.at_once-requires-send-T
+at_once-requires-send-T g c κs within = search (sendable, heap.crosses, store_send) depth 60 fits 20000

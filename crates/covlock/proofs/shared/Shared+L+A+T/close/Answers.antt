@@ -1,0 +1,9 @@
+use Rattle.std.proofs.Common.{◌≤◌, List, length, subst, sym}
+use Rattle.std.specs.List.{AllByRecursion}
+use Rattle.covbook.specs.Op.{EntryData}
+use Rattle.covlock.specs.Seat.{SeatData}
+use Rattle.covlock.proofs.shared.Shared+L+A+T.close.Goals as goal
+
+pub returns-in-Ok-clause-seen : goal.returns-in-Ok-clause-seen
+returns-in-Ok-clause-seen g c =
+    subst (λ (entries : List EntryData). AllByRecursion (λ (s : SeatData). s.seen ≤ length entries) c.args.seats) (sym c.into_entries.ensures.entries) c.in-Ok.ensures.seen
