@@ -5,4 +5,4 @@ use Rattle.covbench.proofs.pace.started.Goals as goal
 
 -- the store may go to another thread
 pub measured-requires-send-T : goal.measured-requires-send-T
-measured-requires-send-T g c κs within = search (sendable, heap.crosses, store_send) depth 60 fits 20000
+measured-requires-send-T g c κs = search (sendable, heap.crosses, store_send) depth 60 fits 20000

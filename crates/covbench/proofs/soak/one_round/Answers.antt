@@ -5,4 +5,4 @@ use Rattle.covbench.proofs.soak.one_round.Goals as goal
 
 -- the store may go to another thread
 pub soaked-requires-send-T : goal.soaked-requires-send-T
-soaked-requires-send-T g c κs within = search (sendable, heap.crosses, store_send) depth 60 fits 20000
+soaked-requires-send-T g c κs = search (sendable, heap.crosses, store_send) depth 60 fits 20000

@@ -5,4 +5,4 @@ use Rattle.covjobs_tests.proofs.tests.into_book.collected_into_a_book.Goals as g
 
 -- the store may go to another thread
 pub check_added_up-requires-send-T : goal.check_added_up-requires-send-T
-check_added_up-requires-send-T g c κs within = search (sendable, heap.crosses, store_send) depth 60 fits 20000
+check_added_up-requires-send-T g c κs = search (sendable, heap.crosses, store_send) depth 60 fits 20000

@@ -5,4 +5,4 @@ use Rattle.covjobs_tests.proofs.tests.into_book.the_order_of_parts.Goals as goal
 
 -- the store may go to another thread
 pub check_order-requires-send-T : goal.check_order-requires-send-T
-check_order-requires-send-T g c κs within = search (sendable, heap.crosses, store_send) depth 60 fits 20000
+check_order-requires-send-T g c κs = search (sendable, heap.crosses, store_send) depth 60 fits 20000

@@ -5,4 +5,4 @@ use Rattle.covjobs_tests.proofs.tests.readers.read_at_once.Goals as goal
 
 -- the store may go to another thread
 pub read_while_written-requires-send-T : goal.read_while_written-requires-send-T
-read_while_written-requires-send-T g c κs within = search (sendable, heap.crosses, store_send) depth 60 fits 20000
+read_while_written-requires-send-T g c κs = search (sendable, heap.crosses, store_send) depth 60 fits 20000

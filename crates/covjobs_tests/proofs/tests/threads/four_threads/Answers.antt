@@ -5,4 +5,4 @@ use Rattle.covjobs_tests.proofs.tests.threads.four_threads.Goals as goal
 
 -- the store may go to another thread
 pub at_once-requires-send-T : goal.at_once-requires-send-T
-at_once-requires-send-T g c κs within = search (sendable, heap.crosses, store_send) depth 60 fits 20000
+at_once-requires-send-T g c κs = search (sendable, heap.crosses, store_send) depth 60 fits 20000

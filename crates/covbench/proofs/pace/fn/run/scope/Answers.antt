@@ -12,5 +12,6 @@ use Rattle.covbench.proofs.pace.fn.run.scope.Goals as goal
 pub spawn-started-requires-send-F : goal.spawn-started-requires-send-F
 spawn-started-requires-send-F g c κs within =
     let runtime : IsSync g.row.R = search (rules, c.requires) parts 8 in
-    let stored : IsSend (param 2 g.row.T) = search (rules, c.requires) parts 8 in
+    let table : IsSend g.row.T = search (rules, c.requires) parts 8 in
+    let stored : IsSend (param 2 g.row.T) = search (rules, sendable, table) depth 20 in
     search (sendable, heap.crosses, shared_sync, entry.the_send, op.the_sync, submitter.the_send) depth 60 fits 20000

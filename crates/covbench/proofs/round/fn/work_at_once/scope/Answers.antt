@@ -11,5 +11,6 @@ use Rattle.covbench.proofs.round.fn.work_at_once.scope.Goals as goal
 pub spawn-requires-send-F : goal.spawn-requires-send-F
 spawn-requires-send-F g c κs within =
     let runtime : IsSync g.row.R = search (rules, c.requires) parts 8 in
-    let stored : IsSend (param 2 g.row.T) = search (rules, c.requires) parts 8 in
+    let table : IsSend g.row.T = search (rules, c.requires) parts 8 in
+    let stored : IsSend (param 2 g.row.T) = search (rules, sendable, table) depth 20 in
     search (sendable, heap.crosses, shared_sync, entry.the_send, job.the_send) depth 60 fits 20000
