@@ -102,8 +102,7 @@ others (y ∷ ys) x none = (
 differ : (xs : List ℕ) → ((x : ℕ) → times x xs ≤ 1) → Differ xs
 differ [] once = tt
 differ (x ∷ xs) once =
-    let here : ◌≡◌ {A = ℕ} (cond (eqb x x) 1 0) 1 = ap (λ (t : Bool). cond t 1 0) (eq-eqb x x refl) in
-    (
+    let here : ◌≡◌ {A = ℕ} (cond (eqb x x) 1 0) 1 = ap (λ (t : Bool). cond t 1 0) (eq-eqb x x refl) in (
       others xs x (omega (arith, here, once x)),
       differ xs (λ (y : ℕ). omega (arith, once y)),
     )

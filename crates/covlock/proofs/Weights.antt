@@ -61,9 +61,9 @@ adds (x ∷ xs) m once = elim (cases_eq m x) [
       let not_yet : cond (ltb x m) x 0 ≡ 0 = if_no (ltb x m) x (le-ltb x m (omega (arith, e))) in
       elim (adds xs m (omega (arith, one, once))) [
         | inl none ↦ inr (
-            sum_same (cond (eqb m x) 1 0) 1 (times m xs) 0 one none.0,
-            sum_here (cond (ltb x (suc m)) x 0) (cond (ltb x m) x 0) (low (suc m) xs) (low m xs) m x here not_yet e none.1,
-          )
+          sum_same (cond (eqb m x) 1 0) 1 (times m xs) 0 one none.0,
+          sum_here (cond (ltb x (suc m)) x 0) (cond (ltb x m) x 0) (low (suc m) xs) (low m xs) m x here not_yet e none.1,
+        )
         | inr more ↦ absurd (omega (arith, one, once, more.0))
       ]
   | inr other ↦
@@ -71,13 +71,13 @@ adds (x ∷ xs) m once = elim (cases_eq m x) [
       let head = same_head x m other in
       elim (adds xs m (omega (arith, no, once))) [
         | inl none ↦ inl (
-            sum_same (cond (eqb m x) 1 0) 0 (times m xs) 0 no none.0,
-            sum_same (cond (ltb x (suc m)) x 0) (cond (ltb x m) x 0) (low (suc m) xs) (low m xs) head none.1,
-          )
+          sum_same (cond (eqb m x) 1 0) 0 (times m xs) 0 no none.0,
+          sum_same (cond (ltb x (suc m)) x 0) (cond (ltb x m) x 0) (low (suc m) xs) (low m xs) head none.1,
+        )
         | inr more ↦ inr (
-            sum_same (cond (eqb m x) 1 0) 0 (times m xs) 1 no more.0,
-            sum_more (cond (ltb x (suc m)) x 0) (cond (ltb x m) x 0) (low (suc m) xs) (low m xs) m head more.1,
-          )
+          sum_same (cond (eqb m x) 1 0) 0 (times m xs) 1 no more.0,
+          sum_more (cond (ltb x (suc m)) x 0) (cond (ltb x m) x 0) (low (suc m) xs) (low m xs) m head more.1,
+        )
       ]
 ]
 
@@ -131,8 +131,7 @@ all_within : (m : ℕ) (xs : List ℕ) → AllByRecursion (λ (x : ℕ). x < m) 
 all_within m [] within = (refl, refl)
 all_within m (x ∷ xs) within =
     let yes = lt-ltb x m within.0 in
-    let rest = all_within m xs within.1 in
-    (
+    let rest = all_within m xs within.1 in (
       sum_same (cond (ltb x m) 1 0) 1 (below m xs) (length xs) (if_yes (ltb x m) 1 yes) rest.0 ∙ one_more (length xs),
       sum_same (cond (ltb x m) x 0) x (low m xs) (all xs) (if_yes (ltb x m) x yes) rest.1,
     )

@@ -1,10 +1,10 @@
 //! The latest news of a job.
 
-use covnews::{Name, News};
-
 ghost use Rattle.std.specs.Prelude.{◌≡◌, ◌<◌, length};
 ghost use Rattle.covbook.specs.Kept.{IsPrefix};
 ghost use Rattle.covlock.specs.Latest.{history_of};
+
+use covnews::{Name, News};
 
 /// Returns a copy of `news`, whose history must be longer than that of `latest`. The longer history extends the shorter one.
 pub fn later<L: Name>(latest: &Option<News<L>>, news: &News<L>) -> News<L>
