@@ -11,7 +11,7 @@ use Rattle.covbook.specs.Gather.{LogData, AreReadingsOf, Differ, IsGathered, IsL
 use Rattle.covbook.specs.Kept.{IsPrefix}
 use Rattle.covbook.specs.Op.{EntryData, ReceiptData}
 use Rattle.covbook.specs.Step.{max_entries}
-use Rattle.covnews.proofs.Prefixes.{shorter_prefix}
+use Rattle.covnews.proofs.Prefixes.{prefix_of_prefix, shorter_prefix}
 use Rattle.covlock.specs.Handed.{AllAreSeated}
 use Rattle.covlock.specs.Logs.{AreLogged, HasSeen, IsLogged}
 use Rattle.covlock.specs.Seat.{SeatData, calls_in, log_of, logs_of}
@@ -51,7 +51,7 @@ pub none_logged : (history : List EntryData) (before after : ℕ) → after ≡ 
 none_logged history before after same = record { seen = tt; last = tt; few = tt; weighs = omega (arith, same) }
 
 -- one more seat comes before those that have seen beginnings of a history, which also begins with that of the seat's latest news
-pub one_logged : (history latest : List EntryData) (seat : SeatData) (seats : List SeatData) (before own after : ℕ) → IsLogged seat latest own → IsPrefix latest history
+one_logged : (history latest : List EntryData) (seat : SeatData) (seats : List SeatData) (before own after : ℕ) → IsLogged seat latest own → IsPrefix latest history
     → AreLogged history seats (before + own) after → AreLogged history (seat ∷ seats) before after
 one_logged history latest seat seats before own after logged prefix are =
     let log = log_of seat in
@@ -67,6 +67,18 @@ one_logged history latest seat seats before own after logged prefix are =
       few = all_joined (λ (p : ℕ). p < max_entries) (places_of log) others (places_few latest log max_entries logged.kept.log_of (omega (arith, logged.kept.upto, logged.few))) are.few;
       weighs = omega (arith, are.weighs, logged.weighs, adds);
     }
+
+-- if the seats that are left have seen beginnings of a history that begins with these news, all seats have
+abbrev Follows : List EntryData → (left : List SeatData) → (now : ℕ) → (seats : List SeatData) → (before : ℕ) → Type 0
+Follows news left now seats before = (history : List EntryData) → (after : ℕ) → IsPrefix news history → AreLogged history left now after → AreLogged history seats before after
+
+-- this stays if one more seat gives its share, and the news are then at least as long as its own
+pub one_given : (news longer latest : List EntryData) (seat : SeatData) (left rest seats : List SeatData) (now own next before : ℕ) → left ≡ seat ∷ rest → next ≡ now + own → IsLogged seat latest own
+    → IsPrefix news longer → IsPrefix latest longer → Follows news left now seats before → Follows longer rest next seats before
+one_given news longer latest seat left rest seats now own next before is adds logged onward begins follows = λ history after prefix are.
+    follows history after (prefix_of_prefix news longer history onward prefix)
+    (subst (λ (ss : List SeatData). AreLogged history ss now after) (sym is)
+    (one_logged history latest seat rest now own after logged (prefix_of_prefix latest longer history begins prefix) (subst (λ (n : ℕ). AreLogged history rest n after) adds are)))
 
 -- the logs of the seats are logs of the history of which they have seen beginnings
 logs_are_of : (history : List EntryData) (seats : List SeatData) → AllByRecursion (HasSeen history) seats → AllByRecursion (IsLogOf history) (logs_of seats)
