@@ -29,7 +29,7 @@ e2e: build/covcollect
 test: toolchain
 	@scripts/test
 
-## make prove: proves every crate, and that each edit is refused; what passed on this machine is kept: one to two hours from nothing
+## make prove: proves every crate, and that each edit is refused; what passed on this machine is kept: two to three hours from nothing
 prove: toolchain
 	@scripts/prove
 

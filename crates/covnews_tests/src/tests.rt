@@ -170,11 +170,11 @@ fn read_often<L: Name>(rt: &impl Abort, mut live: Live<L>) -> Live<L> {
 }
 
 /// One thread publishes while another reads.
-fn read_meanwhile<
-    L: Name + Send + Sync,
-    R: Threads + Wait + Abort + Sync,
-    T: Table<Global, Plan: Send, Renaming: Send> + Send,
->(rt: &R, alloc: Global, seed: HistorySeed)
+fn read_meanwhile<L: Name + Send + Sync, R: Threads + Wait + Abort + Sync>(
+    rt: &R,
+    alloc: Global,
+    seed: HistorySeed,
+)
     requires { seed.book ≡ L.book }
 {
     let mut publisher = opened::<L, Global>(rt, alloc, seed, 64);
@@ -183,7 +183,7 @@ fn read_meanwhile<
         rt,
         move || -> News<L>
             requires { publisher.noted ≡ [] }
-        { step_often::<L, R, T>(rt, alloc, publisher) },
+        { step_often::<L, R, Store>(rt, alloc, publisher) },
         move || read_often(rt, live),
     );
     live.learn(&news);
@@ -192,6 +192,6 @@ fn read_meanwhile<
 
 #[test]
 fn readings_rise(rt: HostRuntime) -> Result<(), Fail> {
-    read_meanwhile::<Brand, _, Store>(&rt, rt.alloc(), HistorySeed::new());
+    read_meanwhile::<Brand, _>(&rt, rt.alloc(), HistorySeed::new());
     Ok(())
 }

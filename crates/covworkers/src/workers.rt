@@ -170,16 +170,19 @@ fn work_at_once<
                     inputs: Snapshot::of(inputs),
                 };
                 if all_started {
-                    match scope.spawn_with(
-                        promise,
-                        move || -> Result<Worker<L, Global, P, T::Fault>, Stop>
-                            requires share { share.items ≡ share_of inputs.now.value.items jobs seat.job }
-                            requires fresh { seat ≡ fresh_seat seat.job }
-                            ensures { HasEnded (chances_of T.may_give T.may_fail) (work_of inputs.entry.now.value.items jobs readers seat) result }
-                        { work(rt, alloc, book, gate, seat, jobs, readers, inputs, share) },
-                    ) {
-                        Ok(handle) => handles.push(handle)?,
-                        Err(_refused) => all_started = false,
+                    match scope
+                        .spawn_with(
+                            promise,
+                            move || -> Result<Worker<L, Global, P, T::Fault>, Stop>
+                                requires share { share.items ≡ share_of inputs.now.value.items jobs seat.job }
+                                requires fresh { seat ≡ fresh_seat seat.job }
+                                ensures { HasEnded (chances_of T.may_give T.may_fail) (work_of inputs.entry.now.value.items jobs readers seat) result }
+                            { work(rt, alloc, book, gate, seat, jobs, readers, inputs, share) },
+                        )
+                        .ok()
+                    {
+                        Some(handle) => handles.push(handle)?,
+                        None => all_started = false,
                     }
                 }
             }

@@ -4,5 +4,5 @@ use Rattle.covstore.proofs.Crossing.{store_send}
 use Rattle.covcollect.proofs.main.Goals as goal
 
 -- the store may go to another thread
-pub run-requires-send-T : goal.run-requires-send-T
-run-requires-send-T c κs = search (sendable, heap.crosses, store_send) depth 60 fits 20000
+pub run-status-requires-send-T : goal.run-status-requires-send-T
+run-status-requires-send-T c κs = search (sendable, heap.crosses, store_send) depth 60 fits 20000

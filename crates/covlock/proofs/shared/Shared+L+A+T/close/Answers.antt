@@ -10,4 +10,4 @@ returns-in-Ok-clause-gathered g c = subst (λ (entries : List EntryData). IsGath
 
 pub returns-in-Ok-clause-seen : goal.returns-in-Ok-clause-seen
 returns-in-Ok-clause-seen g c =
-    subst (λ (entries : List EntryData). AllByRecursion (λ (s : SeatData). s.seen ≤ length entries) c.args.seats) (sym c.into_entries.ensures) c.in-Ok.ensures.seen
+    subst (λ (entries : List EntryData). AllByRecursion (λ (s : SeatData). s.seen ≤ length entries) c.args.seats) (sym c.into_entries.ensures.entries) c.in-Ok.ensures.seen
