@@ -27,7 +27,6 @@ mod start;
 
 pub use covbook::Reading;
 pub use covnews::{Live, Name, News, ReaderFault};
-pub use latest::later;
 pub use seat::Seat;
 pub use seat_list::Seats;
 pub use shared::{CloseFault, Done, MAX_READERS, Shared, open_book, open_book_keeping};
