@@ -45,7 +45,7 @@ pub(crate) fn perform<L: Name, A: Allocator + Copy, R: Wait, T: Table<A>>(
     rt: &R,
     alloc: A,
     book: &Shared<L, A, T>,
-    seat: &mut Seat<L>,
+    seat: &mut Seat<L, A>,
     op: &Op<A>,
 ) -> Result<Done<L, A>, BookFault> {
     book.perform(rt, alloc, seat, op)

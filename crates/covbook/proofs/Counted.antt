@@ -34,7 +34,7 @@ at_after : {X : Type 0} (P : X → Type 0) (before after : List X) (i : ℕ) →
 at_after {X} P before after i prefix h = subst (λ (xs : List X). IsSomeAnd (slice_get xs i) P) prefix.1 (at_longer P before prefix.0 i h)
 
 -- the log of a history is one of each history that begins with it
-log_after : (before after : List EntryData) (log : LogData) → IsPrefix before after → IsLogOf before log → IsLogOf after log
+pub log_after : (before after : List EntryData) (log : LogData) → IsPrefix before after → IsLogOf before log → IsLogOf after log
 log_after before after log prefix is = record {
   rise = is.rise;
   own = all_weaker (IsOfJob before log.job) (IsOfJob after log.job) (λ (r : ReceiptData) (h : IsOfJob before log.job r). at_after (λ (e : EntryData). e.job ≡ log.job) before after r.place prefix h) log.receipts is.own;
@@ -42,7 +42,7 @@ log_after before after log prefix is = record {
 }
 
 -- the places of a log are those of entries
-places_within : (entries : List EntryData) (log : LogData) → IsLogOf entries log → AllByRecursion (λ (p : ℕ). p < length entries) (places_of log)
+pub places_within : (entries : List EntryData) (log : LogData) → IsLogOf entries log → AllByRecursion (λ (p : ℕ). p < length entries) (places_of log)
 places_within entries log is =
     all_mapped (λ (p : ℕ). p < length entries) (λ (r : ReceiptData). r.place) log.receipts
     (all_weaker (IsOfJob entries log.job) (λ (r : ReceiptData). r.place < length entries) (λ (r : ReceiptData) (h : IsOfJob entries log.job r). at_within (λ (e : EntryData). e.job ≡ log.job) entries r.place h) log.receipts is.own)
@@ -95,7 +95,7 @@ all_places_within entries (log ∷ logs) kept =
     all_joined (λ (p : ℕ). p < length entries) (places_of log) (places_in logs) (places_within entries log kept.0) (all_places_within entries logs kept.1)
 
 -- logs of different jobs, with as many receipts as there are entries, have each entry, since no two receipts have one place
-merge_by_count : (entries : List EntryData) (logs : List LogData) → Differ (jobs_of logs) → AllByRecursion (IsLogOf entries) logs → length (places_in logs) ≡ length entries → IsMerge entries logs
+pub merge_by_count : (entries : List EntryData) (logs : List LogData) → Differ (jobs_of logs) → AllByRecursion (IsLogOf entries) logs → length (places_in logs) ≡ length entries → IsMerge entries logs
 merge_by_count entries logs differ kept count = record {
   differ = differ;
   kept = kept;

@@ -1,7 +1,7 @@
 -- One more call of a seat: the log with its receipt is the seat's.
-use Rattle.std.proofs.Common.{◌≡◌, ◌∙◌, ℕ, ◌+◌, ◌<◌, ◌≤◌, List, [], ◌∷◌, ◌++◌, length, inl, inr, ap, sym, refl, subst, arith}
+use Rattle.std.proofs.Common.{◌≡◌, ◌∙◌, ℕ, ◌+◌, ◌<◌, ◌≤◌, List, [], ◌∷◌, ◌++◌, length, map, inl, inr, ap, sym, refl, subst, arith}
 use Rattle.std.specs.List.{Contains}
-use Rattle.std.proofs.lemmas.List.{length-append, map-append}
+use Rattle.std.proofs.lemmas.List.{length-append, length-map, map-append}
 use Rattle.covbook.proofs.Counted.{one_more}
 use Rattle.covbook.proofs.PlaceCounts.{In, Contains-from}
 use Rattle.covbook.specs.Gather.{LogData, places_of}
@@ -9,8 +9,8 @@ use Rattle.covbook.specs.Kept.{IsKept, IsPrefix, with_receipt}
 use Rattle.covbook.specs.Op.{OpData, AnswerData, EntryData, ReceiptData}
 use Rattle.covbook.specs.Step.{max_entries, receipt_of}
 use Rattle.covlock.specs.Call.{IsNewsOf}
-use Rattle.covlock.specs.Logs.{HasLog}
-use Rattle.covlock.specs.Seat.{SeatData, fresh_seat, after_call}
+use Rattle.covlock.specs.Logs.{IsLogged}
+use Rattle.covlock.specs.Seat.{SeatData, fresh_seat, after_call, log_of}
 use Rattle.covlock.specs.Weight.{weight, weight_at}
 use Rattle.covlock.proofs.Weights.{weight_append}
 
@@ -46,36 +46,54 @@ same_place place told e = omega (arith, e)
 places_after : (log : LogData) (told : ReceiptData) → places_of (with_receipt log told) ≡ places_of log ++ told.place ∷ []
 places_after log told = map-append (λ (r : ReceiptData). r.place) log.receipts (told ∷ [])
 
-pub logged_after : (seat : SeatData) (latest news : List EntryData) (amount after : ℕ) (told : ReceiptData) → HasLog seat latest amount → IsNewsOf seat.job told.op told news → told.place < max_entries
-    → seat.seen ≤ told.place → IsPrefix latest news → after ≡ amount + weight_at told.place → HasLog (after_call seat told.place) news after
-logged_after seat latest news amount after told has is few later prefix adds =
-    let log = has.0 in
-    let logged = has.1 in
-    let own : IsNewsOf log.job told.op told news = subst (λ (job : ℕ). IsNewsOf job told.op told news) (sym logged.job) is in
+logged_after : (seat : SeatData) (latest news : List EntryData) (amount after : ℕ) (told : ReceiptData) → IsLogged seat latest amount → IsNewsOf seat.job told.op told news → told.place < max_entries
+    → seat.seen ≤ told.place → IsPrefix latest news → after ≡ amount + weight_at told.place → IsLogged (after_call seat told) news after
+logged_after seat latest news amount after told logged is few later prefix adds =
+    let log = log_of seat in
     let places : places_of (with_receipt log told) ≡ places_of log ++ told.place ∷ [] = places_after log told in
-    let more : weight (places_of (with_receipt log told)) ≡ weight (places_of log) + weight (told.place ∷ []) = ap (λ (ps : List ℕ). weight ps) places ∙ weight_append (places_of log) (told.place ∷ []) in (
-      with_receipt log told,
-      record {
-        job = logged.job;
-        kept = kept_after log seat.calls seat.seen latest news told.op told logged.kept own refl later prefix;
-        last = λ place ends.
-            subst (λ (ps : List ℕ). Contains ps place) (sym places) (Contains-from (places_of log ++ told.place ∷ []) place (in_last (places_of log) place told.place (same_place place told.place ends)));
-        each = omega (arith, logged.each, later);
-        few = omega (arith, few);
-        weighs = omega (arith, adds, logged.weighs, more);
-      },
-    )
+    let more : weight (places_of (with_receipt log told)) ≡ weight (places_of log) + weight (told.place ∷ []) = ap (λ (ps : List ℕ). weight ps) places ∙ weight_append (places_of log) (told.place ∷ []) in
+    record {
+      kept = kept_after log seat.calls seat.seen latest news told.op told logged.kept is refl later prefix;
+      last = λ place ends.
+          subst (λ (ps : List ℕ). Contains ps place) (sym places) (Contains-from (places_of log ++ told.place ∷ []) place (in_last (places_of log) place told.place (same_place place told.place ends)));
+      each = omega (arith, logged.each, later);
+      few = omega (arith, few);
+      weighs = omega (arith, adds, logged.weighs, more);
+    }
+
+-- ---- a seat, with its receipts shown by what is stored of them
+
+abbrev seat_of : {X : Type 0} → (stored : List X) → (shown : X → ReceiptData) → (job calls seen : ℕ) → SeatData
+seat_of stored shown job calls seen = record { job = job; calls = calls; seen = seen; receipts = map shown stored }
+
+-- the seat has no more receipts than it has seen entries, so it has room for that of the next entry
+pub room_left : {X : Type 0} (stored : List X) (shown : X → ReceiptData) (job calls seen : ℕ) (latest : List EntryData) (amount stored_len room place : ℕ)
+    → IsLogged (seat_of stored shown job calls seen) latest amount → stored_len ≡ length stored → max_entries ≤ room → seen ≤ place → place < max_entries → stored_len < room
+room_left stored shown job calls seen latest amount stored_len room place logged is enough later few =
+    let counted : length (map shown stored) ≡ calls = logged.kept.counted in
+    omega (arith, counted, length-map stored shown, logged.each, is, enough, later, few)
+
+pub shown_after : {X : Type 0} (stored next : List X) (last : X) (shown : X → ReceiptData) (told : ReceiptData) → next ≡ stored ++ last ∷ [] → shown last ≡ told → map shown next ≡ map shown stored ++ told ∷ []
+shown_after {X} stored next last shown told grown is_told =
+    ap (λ (xs : List X). map shown xs) grown ∙ map-append shown stored (last ∷ []) ∙ ap (λ (r : ReceiptData). map shown stored ++ r ∷ []) is_told
+
+-- after a call the seat has the call's receipt too
+pub seat_after : {X : Type 0} (stored next : List X) (last : X) (shown : X → ReceiptData) (job calls seen : ℕ) (latest news : List EntryData) (amount after : ℕ) (told : ReceiptData)
+    → next ≡ stored ++ last ∷ [] → shown last ≡ told → IsLogged (seat_of stored shown job calls seen) latest amount → IsNewsOf job told.op told news → told.place < max_entries
+    → seen ≤ told.place → IsPrefix latest news → after ≡ amount + weight_at told.place → IsLogged (seat_of next shown job (calls + 1) (told.place + 1)) news after
+seat_after stored next last shown job calls seen latest news amount after told grown is_told logged is few later prefix adds =
+    subst (λ (rs : List ReceiptData). IsLogged (record { job = job; calls = calls + 1; seen = told.place + 1; receipts = rs }) news after) (sym (shown_after stored next last shown told grown is_told))
+    (logged_after (seat_of stored shown job calls seen) latest news amount after told logged is few later prefix adds)
 
 -- a seat without calls has the empty log
-pub fresh_logged : (job amount : ℕ) → amount ≡ 0 → HasLog (fresh_seat job) [] amount
-fresh_logged job amount none = (
-  record { job = job; receipts = []; readings = [] },
-  record {
-    job = refl;
-    kept = record { log_of = record { rise = tt; own = tt; same = tt }; counted = refl; upto = refl };
-    last = λ place ends. absurd (omega (arith, ends));
-    each = omega arith;
-    few = omega arith;
-    weighs = none;
-  },
-)
+fresh_logged : (job amount : ℕ) → amount ≡ 0 → IsLogged (fresh_seat job) [] amount
+fresh_logged job amount none = record {
+  kept = record { log_of = record { rise = tt; own = tt; same = tt }; counted = refl; upto = refl };
+  last = λ place ends. absurd (omega (arith, ends));
+  each = omega arith;
+  few = omega arith;
+  weighs = none;
+}
+
+pub seat_before : {X : Type 0} (stored : List X) (shown : X → ReceiptData) (job amount : ℕ) → stored ≡ [] → amount ≡ 0 → IsLogged (seat_of stored shown job 0 0) [] amount
+seat_before {X} stored shown job amount empty none = subst (λ (xs : List X). IsLogged (seat_of xs shown job 0 0) [] amount) (sym empty) (fresh_logged job amount none)

@@ -7,7 +7,7 @@ ghost use Rattle.covlock.specs.Latest.{history_of};
 use covnews::{Name, News};
 
 /// Returns a copy of `news`, whose history must be longer than that of `latest`. The longer history extends the shorter one.
-pub fn later<L: Name>(latest: &Option<News<L>>, news: &News<L>) -> News<L>
+pub(crate) fn later<L: Name>(latest: &Option<News<L>>, news: &News<L>) -> News<L>
     requires { length (history_of latest.now) < length news.now }
     ensures same { result ≡ news.now }
     ensures onward { IsPrefix (history_of latest.now) result }

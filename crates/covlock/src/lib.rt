@@ -1,8 +1,8 @@
 //! One book that many threads share under a lock.
 //!
 //! `open_book` makes a book and one `Seat` per job out of a `Start`. With a seat, a thread performs steps of the book
-//! (`Shared::perform`), each under the book's lock. `Shared::close` takes all seats back and returns the history, which has exactly
-//! one entry per successful call.
+//! (`Shared::perform`), each under the book's lock. `Shared::close` takes all seats back and returns the history, which has each
+//! successful call exactly once, with its operation and answer.
 //!
 //! `open_book_keeping` makes a book that stores less of its history (covbook's `Keep`), and `Shared::close_book` returns the book
 //! itself. Each contract speaks of the whole history, whatever is stored.
@@ -27,7 +27,6 @@ mod start;
 
 pub use covbook::Reading;
 pub use covnews::{Live, Name, News, ReaderFault};
-pub use latest::later;
 pub use seat::Seat;
 pub use seat_list::Seats;
 pub use shared::{CloseFault, Done, MAX_READERS, Shared, open_book, open_book_keeping};

@@ -11,7 +11,7 @@ use std::sync::ledger::Share;
 /// A list of seats. Contracts see the model of each seat, in order.
 #[derive(Drop)]
 pub struct Seats<L: Name, A: Allocator = Global> {
-    seats: Vec<Seat<L>, A>,
+    seats: Vec<Seat<L, A>, A>,
 }
 
 impl<L: Name, A: Allocator> Model for Seats<L, A> {
@@ -26,7 +26,7 @@ impl<L: Name, A: Allocator> Model for Seats<L, A> {
 impl<L: Name, A: Allocator> Seats<L, A> {
     ghost use Rattle.std.specs.Prelude.{◌≡◌, ◌+◌, ◌≤◌, ◌++◌, [], ◌∷◌, length, IsTrue, OnOk, OnErr, true, MatchOption, IfOk};
     ghost use Rattle.covbook.specs.Kept.{IsPrefix};
-    ghost use Rattle.covlock.specs.Logs.{HaveLogs};
+    ghost use Rattle.covlock.specs.Logs.{AreLogged};
     ghost use Rattle.covlock.specs.Seat.{first_seats};
     ghost use Rattle.covlock.specs.Handed.{is_seated, AllAreSeated, IsLeastMissing};
 
@@ -40,21 +40,21 @@ impl<L: Name, A: Allocator> Seats<L, A> {
     }
 
     /// The list of these seats. Never allocates.
-    pub fn of(seats: Vec<Seat<L>, A>) -> Seats<L, A>
+    pub fn of(seats: Vec<Seat<L, A>, A>) -> Seats<L, A>
         ensures { result ≡ seats.items }
     {
         Seats { seats }
     }
 
     /// Consumes the list, and returns its seats in order. Never allocates.
-    pub fn into_vec(self) -> Vec<Seat<L>, A>
+    pub fn into_vec(self) -> Vec<Seat<L, A>, A>
         ensures { result.items ≡ self }
     {
         self.seats
     }
 
     /// Appends a seat. On `Memory`, drops the seat and leaves the list unchanged.
-    pub fn push(&mut self, seat: Seat<L>) -> Result<(), Memory>
+    pub fn push(&mut self, seat: Seat<L, A>) -> Result<(), Memory>
         ensures ok { OnOk result (self.new ≡ self.old ++ seat ∷ []) }
         ensures err { OnErr result (self.new ≡ self.old) }
     {
@@ -63,7 +63,7 @@ impl<L: Name, A: Allocator> Seats<L, A> {
     }
 
     /// The seats in order.
-    pub fn get(&self) -> &[Seat<L>]
+    pub fn get(&self) -> &[Seat<L, A>]
         ensures { result.now ≡ self.now }
     {
         self.seats.as_slice()
@@ -94,7 +94,7 @@ impl<L: Name, A: Allocator> Seats<L, A> {
         requires few { to.old.parts ≤ L.parts }
         ensures parts { to.new.parts ≡ to.old.parts + length self }
         ensures few { to.new.parts ≤ L.parts }
-        ensures logs { HaveLogs result self to.old.amount to.new.amount }
+        ensures logs { AreLogged result self to.old.amount to.new.amount }
         ensures news { IsPrefix news result }
     {
         let mut all = news;
@@ -111,7 +111,7 @@ ghost use Rattle.std.specs.Prelude.{◌≡◌, IfOk};
 ghost use Rattle.covlock.specs.Seat.{first_seats};
 
 /// Makes a seat without calls for each job from 0 to `jobs - 1`. Each seat gets one part of the share `all`.
-pub(crate) fn seats_for<L: Name, A: Allocator>(
+pub(crate) fn seats_for<L: Name, A: Allocator + Copy>(
     alloc: A,
     jobs: u32,
     all: &mut Share<L>,
@@ -124,7 +124,8 @@ pub(crate) fn seats_for<L: Name, A: Allocator>(
 {
     let mut seats = Seats::new(alloc);
     for job in 0..jobs {
-        seats.push(Seat::new(job, all.split_off(1, 0)))?;
+        let seat = Seat::new(alloc, job, all.split_off(1, 0))?;
+        seats.push(seat)?;
     }
     Ok(seats)
 }

@@ -119,14 +119,14 @@ impl<L: Name, A: Allocator + Copy, T: Table<A>, K: Keep<Of = Entry<A>>> Shared<L
         &self,
         rt: &R,
         alloc: A,
-        seat: &mut Seat<L>,
+        seat: &mut Seat<L, A>,
         op: &Op<A>,
     ) -> Result<Done<L, A>, BookFault>
         ensures asked { IfOk result (λ d. op_data d.receipt.op ≡ op_data op.now) }
         ensures told { IfOk result (λ d. IsReceiptFor (op_data op.now) (receipt_data d.receipt)) }
         ensures news { IfOk result (λ d. IsNewsOf seat.old.job (op_data op.now) (receipt_data d.receipt) d.news) }
         ensures seen { IfOk result (λ d. seat.old.seen ≤ d.receipt.place) }
-        ensures seat { MatchResult result (λ d. seat.new ≡ after_call seat.old d.receipt.place) (λ _. seat.new ≡ seat.old) }
+        ensures seat { MatchResult result (λ d. seat.new ≡ after_call seat.old (receipt_data d.receipt)) (λ _. seat.new ≡ seat.old) }
         ensures full { IfErr result (λ f. max_entries ≤ seat.old.seen → f ≡ faults.Full) }
     {
         let (receipt, news) = self.shared_state.lock(rt).step(rt, alloc, seat, op)?;
@@ -137,9 +137,10 @@ impl<L: Name, A: Allocator + Copy, T: Table<A>, K: Keep<Of = Entry<A>>> Shared<L
 impl<L: Name, A: Allocator, T: Table<A>, K: Keep<Of = Entry<A>>> Shared<L, A, T, K> {
     ghost use Rattle.std.specs.Prelude.{◌≡◌, ◌≤◌, length, IfOk, IfErr, MatchResult};
     ghost use Rattle.std.specs.List.{AllByRecursion};
+    ghost use Rattle.covbook.specs.Gather.{IsGathered};
     ghost use Rattle.covbook.specs.Op.{AreLawfulOps};
     ghost use Rattle.covbook.specs.Step.{IsLegal, ops_in};
-    ghost use Rattle.covlock.specs.Seat.{calls_in};
+    ghost use Rattle.covlock.specs.Seat.{calls_in, logs_of};
     ghost use Rattle.covnews.specs.declared.fault.ReaderFault.TheVariants as reader_faults;
     ghost use Rattle.covlock.specs.Handed.{AllAreSeated, IsLeastMissing};
     ghost use Rattle.covlock.specs.CloseFault.{told_job};
@@ -164,6 +165,7 @@ impl<L: Name, A: Allocator, T: Table<A>, K: Keep<Of = Entry<A>>> Shared<L, A, T,
         ensures seated { MatchResult result (λ _. AllAreSeated self.jobs seats) (λ back. IsLeastMissing self.jobs seats (told_job back.2)) }
         ensures history { IfOk result (λ closed. IsLegal closed.0.entries) }
         ensures lawful { IfOk result (λ closed. AreLawfulOps (ops_in closed.0.entries)) }
+        ensures gathered { IfOk result (λ closed. IsGathered closed.0.entries (logs_of seats)) }
         ensures calls { IfOk result (λ closed. length closed.0.entries ≡ calls_in seats) }
         ensures seen { IfOk result (λ closed. AllByRecursion (λ s. s.seen ≤ length closed.0.entries) seats) }
         ensures news { IfOk result (λ closed. closed.1 ≡ closed.0.entries) }
@@ -179,14 +181,15 @@ impl<L: Name, A: Allocator, T: Table<A>, K: Keep<Of = Entry<A>>> Shared<L, A, T,
 impl<L: Name, A: Allocator, T: Table<A>> Shared<L, A, T> {
     ghost use Rattle.std.specs.Prelude.{◌≡◌, ◌≤◌, length, IfOk, MatchResult};
     ghost use Rattle.std.specs.List.{AllByRecursion};
+    ghost use Rattle.covbook.specs.Gather.{IsGathered};
     ghost use Rattle.covbook.specs.Op.{AreLawfulOps};
     ghost use Rattle.covbook.specs.Step.{IsLegal, ops_in};
-    ghost use Rattle.covlock.specs.Seat.{calls_in};
+    ghost use Rattle.covlock.specs.Seat.{calls_in, logs_of};
     ghost use Rattle.covlock.specs.Handed.{AllAreSeated, IsLeastMissing};
     ghost use Rattle.covlock.specs.CloseFault.{told_job};
 
     /// Closes the book if `seats` has the seat of each job. Returns the book's history, whose submissions are lawful, and news of
-    /// this history. If a seat is missing, returns the book, the seats, and the lowest job without a seat. Never allocates. May
+    /// this history. The history has the entry of each successful call exactly once, in the order of each seat's calls. If a seat is missing, returns the book, the seats, and the lowest job without a seat. Never allocates. May
     /// wait for readers that are inside a read. After the close, each reader reports the longest history that it saw or learned.
     pub fn close<R: Wait>(
         self,
@@ -196,6 +199,7 @@ impl<L: Name, A: Allocator, T: Table<A>> Shared<L, A, T> {
         ensures seated { MatchResult result (λ _. AllAreSeated self.jobs seats) (λ back. IsLeastMissing self.jobs seats (told_job back.2)) }
         ensures history { IfOk result (λ closed. IsLegal closed.0) }
         ensures lawful { IfOk result (λ closed. AreLawfulOps (ops_in closed.0)) }
+        ensures gathered { IfOk result (λ closed. IsGathered closed.0 (logs_of seats)) }
         ensures calls { IfOk result (λ closed. length closed.0 ≡ calls_in seats) }
         ensures seen { IfOk result (λ closed. AllByRecursion (λ s. s.seen ≤ length closed.0) seats) }
         ensures news { IfOk result (λ closed. closed.1 ≡ closed.0) }

@@ -72,14 +72,14 @@ impl<L: Name, A: Allocator + Copy, T: Table<A>, K: Keep<Of = Entry<A>>> SharedSt
         &mut self,
         rt: &R,
         alloc: A,
-        seat: &mut Seat<L>,
+        seat: &mut Seat<L, A>,
         op: &Op<A>,
     ) -> Result<(Receipt<A>, News<L>), BookFault>
         ensures told { IfOk result (λ r. IsReceiptAfter self.old (op_data op.now) (receipt_data r.0)) }
         ensures entry { OnOk result (self.new ≡ self.old ++ next_entry self.old seat.old.job (op_data op.now) ∷ []) }
         ensures news { IfOk result (λ r. IsNewsOf seat.old.job (op_data op.now) (receipt_data r.0) r.1) }
         ensures published { IfOk result (λ r. r.1 ≡ self.new) }
-        ensures seat { MatchResult result (λ r. seat.new ≡ after_call seat.old r.0.place) (λ _. seat.new ≡ seat.old) }
+        ensures seat { MatchResult result (λ r. seat.new ≡ after_call seat.old (receipt_data r.0)) (λ _. seat.new ≡ seat.old) }
         ensures seen { IfOk result (λ r. seat.old.seen ≤ r.0.place) }
         ensures refused { OnErr result (self.new ≡ self.old) }
         ensures full { (result ≡ Err faults.Full) ↔ ((length self.old ≡ max_entries) ⊎ (length self.old < seat.old.seen)) }
@@ -104,10 +104,11 @@ impl<L: Name, A: Allocator + Copy, T: Table<A>, K: Keep<Of = Entry<A>>> SharedSt
 impl<L: Name, A: Allocator, T: Table<A>, K: Keep<Of = Entry<A>>> SharedState<L, A, T, K> {
     ghost use Rattle.std.specs.Prelude.{◌≡◌, ◌≤◌, length, IfOk, IfErr};
     ghost use Rattle.std.specs.List.{AllByRecursion};
+    ghost use Rattle.covbook.specs.Gather.{IsGathered};
     ghost use Rattle.covbook.specs.Op.{AreLawfulOps};
     ghost use Rattle.covbook.specs.Step.{IsLegal, ops_in};
     ghost use Rattle.covlock.specs.Handed.{AllAreSeated};
-    ghost use Rattle.covlock.specs.Seat.{calls_in};
+    ghost use Rattle.covlock.specs.Seat.{calls_in, logs_of};
     ghost use Rattle.covnews.specs.declared.fault.ReaderFault.TheVariants as reader_faults;
 
     /// Makes one more reader. It begins with the whole history, all of which is published.
@@ -127,6 +128,7 @@ impl<L: Name, A: Allocator, T: Table<A>, K: Keep<Of = Entry<A>>> SharedState<L, 
         ensures news { result.1 ≡ self }
         ensures legal { IsLegal self }
         ensures lawful { AreLawfulOps (ops_in self) }
+        ensures gathered { IsGathered self (logs_of seats) }
         ensures calls { length self ≡ calls_in seats }
         ensures seen { AllByRecursion (λ s. s.seen ≤ length self) seats }
     {

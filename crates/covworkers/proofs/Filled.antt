@@ -7,16 +7,15 @@ use Rattle.std.proofs.lemmas.List.Concat.{length-flat_map}
 use Rattle.std.proofs.lemmas.List.Sorted.{length_permutation}
 use Rattle.std.proofs.lemmas.List.Sums.{sum_by-cons}
 use Rattle.covdata.specs.Row.{SubmissionData}
-use Rattle.covbook.specs.Kept.{IsKeptWell}
 use Rattle.covbook.specs.Op.{EntryData, OpData, SubmitOp, ReceiptData}
 use Rattle.covbook.specs.Step.{max_entries}
-use Rattle.covlock.specs.Seat.{SeatData, calls_in}
+use Rattle.covlock.specs.Seat.{SeatData, calls_in, fresh_seat}
 use Rattle.covworkers.specs.declared.readers.Readers.{Readers}
 use Rattle.covworkers.specs.declared.readers.Readers.TheVariants as readers
 use Rattle.covworkers.specs.declared.stop.Stop.TheVariants as stops
 use Rattle.covworkers.specs.Collect.{all_places, places_of_job, submissions_of}
 use Rattle.covworkers.specs.Late.{FillHistory, chances_of}
-use Rattle.covworkers.specs.Work.{Chances, HasDone, HasEnded, HaveDone, HaveEnded, IsFrom, IsStarted, MayHaveReader, WorkerData, kept_of, parts_of_end, seats_in}
+use Rattle.covworkers.specs.Work.{Chances, HasDone, HasEnded, HasReceipts, HaveDone, HaveEnded, IsFrom, IsStarted, MayHaveReader, WorkerData, parts_of_end, seats_in}
 use Rattle.covworkers.proofs.Ended.{End}
 use Rattle.covworkers.proofs.Gathered.{all_submitted}
 use Rattle.covworkers.proofs.Taken.{Outcome}
@@ -56,12 +55,12 @@ filled_by {X} {F} MayGive MayFail readers inputs jobs workers some done many =
 
 -- the closed book is full, and the workers have a receipt for each of their calls
 pub filled_if_closed : {X F : Type 0} (MayGive : X → Outcome F → Type 0) (MayFail : X → Type 0) (readers : Readers) (inputs : List X) (jobs : ℕ) (workers : List (WorkerData F)) (entries : List EntryData) → 0 < jobs
-    → HaveDone (chances_of MayGive MayFail) (works_from inputs jobs readers 0 jobs) workers → AllByRecursion (λ (w : WorkerData F). IsKeptWell (kept_of w)) workers → length entries ≡ calls_in (seats_in workers)
+    → HaveDone (chances_of MayGive MayFail) (works_from inputs jobs readers 0 jobs) workers → AllByRecursion (λ (w : WorkerData F). HasReceipts w) workers → length entries ≡ calls_in (seats_in workers)
     → length entries ≡ max_entries → FillHistory MayGive inputs
 filled_if_closed {X} {F} MayGive MayFail readers inputs jobs workers entries some done kept calls full =
     filled_by MayGive MayFail readers inputs jobs workers some done (omega (arith, full, calls, called workers kept))
   where
-    called : {F : Type 0} (workers : List (WorkerData F)) → AllByRecursion (λ (w : WorkerData F). IsKeptWell (kept_of w)) workers → calls_in (seats_in workers) ≡ sum_by (λ (w : WorkerData F). length w.receipts) workers
+    called : {F : Type 0} (workers : List (WorkerData F)) → AllByRecursion (λ (w : WorkerData F). HasReceipts w) workers → calls_in (seats_in workers) ≡ sum_by (λ (w : WorkerData F). length w.receipts) workers
     called [] all = refl
     called {F} (worker ∷ workers) all =
         sum_by-cons (λ (s : SeatData). s.calls) worker.seat (seats_in workers)
@@ -89,7 +88,7 @@ would_have_done chances readers inputs jobs job upto (Ok worker) behind ended fr
 would_have_done chances readers inputs jobs job upto (Err (stops.Unread index)) behind ended from = absurd (not_there chances.MayFail inputs index ended.fails (omega (arith, behind, from)))
 would_have_done {X} {F} chances readers inputs jobs job upto (Err (stops.Refused refusal)) behind ended from =
     let all = ended.2 (omega (arith, behind, from)) in
-    let worker : WorkerData F = record { seat = record { job = job; calls = 0; seen = 0 }; receipts = all.0; latest = []; has_reader = false; readings = []; refused = all.1 } in
+    let worker : WorkerData F = record { seat = fresh_seat job; receipts = all.0; has_reader = false; readings = []; refused = all.1 } in
     (worker, record { own = refl; taken = all.2; read = refl; reader = no_reader readers }, all.3)
 
 all_would : {X F : Type 0} (chances : Chances X F) (readers : Readers) (inputs : List X) (jobs from some upto : ℕ) (ended : List (End F)) → length inputs ≤ upto

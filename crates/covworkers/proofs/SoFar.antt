@@ -1,23 +1,22 @@
 -- What is collected before a text is asked: with one more entry for the text, whichever it is, the history is collected. No worker
 -- performs this entry's call. It is appended in the proof, and so is its receipt in the log of job 0.
-use Rattle.std.proofs.Common.{◌≡◌, ◌∙◌, ℕ, zero, suc, ◌+◌, ◌<◌, ◌≤◌, List, [], ◌∷◌, ◌++◌, length, map, Option, ap, sym, refl, subst, arith, append_assoc}
+use Rattle.std.proofs.Common.{◌≡◌, ◌∙◌, ℕ, zero, suc, ◌+◌, ◌<◌, ◌≤◌, List, [], ◌∷◌, ◌++◌, length, map, ap, sym, refl, subst, arith}
 use Rattle.std.proofs.lemmas.List.{append-nil, length-append, map-append}
 use Rattle.std.proofs.lemmas.List.Sums.{sum_by-cons}
 use Rattle.std.specs.List.{AllByRecursion, range_with_len}
 use Rattle.std.specs.List.Sorted.{IsPermutation, IsNonDecreasingBy}
 use Rattle.covbook.specs.declared.reading.Reading.{Reading}
-use Rattle.covbook.specs.Gather.{LogData, AreReadingsOf, IsGathered, jobs_of}
+use Rattle.covbook.specs.Gather.{LogData, AreReadingsOf, IsGathered, IsLogOf, jobs_of}
 use Rattle.covbook.specs.Kept.{IsPrefix, IsKept, KeptData, IsKeptWell, AreBefore, with_receipt, logs_kept, calls_kept}
 use Rattle.covbook.specs.Op.{OpData, AnswerData, SubmitOp, DropTestOp, RenameOp, ReportOp, ExtractOp, RemoveOp, SummaryOp, EntryData, ReceiptData, AreLawfulOps, IsLawfulOp}
 use Rattle.covbook.specs.Step.{IsLegal, answer_of, answers_to, next_entry, ops_in, receipt_of, table_after, table_of, totals_at, totals_to}
 use Rattle.covbook.specs.Texts.{IsText}
-use Rattle.covlock.specs.Seat.{SeatData, after_call, calls_in}
+use Rattle.covlock.specs.Seat.{SeatData, after_call, calls_in, logs_of}
 use Rattle.covworkers.specs.declared.readers.Readers.TheVariants as readers
 use Rattle.covworkers.specs.declared.refused.RefusedInput.{RefusedInput}
 use Rattle.covworkers.specs.Collect.{HasRead, IsCollectedWith}
 use Rattle.covworkers.specs.Late.{IsCollectedSoFar, chances_of}
-use Rattle.covlock.specs.Latest.{history_of}
-use Rattle.covworkers.specs.Work.{Chances, WorkerData, HaveDone, FirstAsks, kept_of, logs_in, refused_in, seats_in}
+use Rattle.covworkers.specs.Work.{Chances, FirstAsks, HasReceipts, HaveDone, WorkerData, logs_in, refused_in, seats_in}
 use Rattle.covworkers.proofs.Everything.{collected_of}
 use Rattle.covworkers.proofs.LastEntry.{GoesOn, SameTexts}
 use Rattle.covworkers.proofs.Taken.{Outcome}
@@ -82,42 +81,58 @@ silent MayGive MayFail inputs jobs from (suc some) [] done = absurd done
 silent MayGive MayFail inputs jobs from (suc some) (worker ∷ workers) done =
     (subst (λ has. HasRead has worker.receipts worker.readings) done.0.reader done.0.read, silent MayGive MayFail inputs jobs (from + 1) some workers done.1)
 
-logs_are_kept : {F : Type 0} (workers : List (WorkerData F)) → AllByRecursion IsSilent workers → logs_in workers ≡ logs_kept (map kept_of workers)
-logs_are_kept [] none = refl
-logs_are_kept (worker ∷ workers) none =
-    ap (λ (rs : List Reading). record { job = worker.seat.job; receipts = worker.receipts; readings = rs } ∷ logs_in workers) none.0
-    ∙ ap (λ (ls : List LogData). record { job = worker.seat.job; receipts = worker.receipts; readings = [] } ∷ ls) (logs_are_kept workers none.1)
+-- a worker's log without readings
+abbrev silent_log : {F : Type 0} → WorkerData F → LogData
+silent_log worker = record { job = worker.seat.job; receipts = worker.receipts; readings = [] }
 
-nothing_read : {F : Type 0} (entries : List EntryData) (workers : List (WorkerData F)) → AllByRecursion (AreReadingsOf entries) (logs_kept (map kept_of workers))
-nothing_read entries [] = tt
-nothing_read entries (worker ∷ workers) = (tt, nothing_read entries workers)
+-- what is known of a worker's calls: its log is of this history
+abbrev kept_of : {F : Type 0} → List EntryData → WorkerData F → KeptData
+kept_of entries worker = record { log = silent_log worker; calls = worker.seat.calls; seen = length entries; latest = entries }
 
-calls_are_kept : {F : Type 0} (workers : List (WorkerData F)) → calls_kept (map kept_of workers) ≡ calls_in (seats_in workers)
-calls_are_kept [] = refl
-calls_are_kept (worker ∷ workers) =
-    let here : calls_kept (map kept_of (worker ∷ workers)) ≡ worker.seat.calls + calls_kept (map kept_of workers) = sum_by-cons (λ (k : KeptData). k.calls) (kept_of worker) (map kept_of workers) in
+logs_are_silent : {F : Type 0} (workers : List (WorkerData F)) → AllByRecursion IsSilent workers → logs_in workers ≡ map silent_log workers
+logs_are_silent [] none = refl
+logs_are_silent (worker ∷ workers) none =
+    ap (λ (rs : List Reading). record { job = worker.seat.job; receipts = worker.receipts; readings = rs } ∷ logs_in workers) none.0 ∙ ap (λ (ls : List LogData). silent_log worker ∷ ls) (logs_are_silent workers none.1)
+
+logs_are_kept : {F : Type 0} (entries : List EntryData) (workers : List (WorkerData F)) → logs_kept (map (kept_of entries) workers) ≡ map silent_log workers
+logs_are_kept entries [] = refl
+logs_are_kept entries (worker ∷ workers) = ap (λ (ls : List LogData). silent_log worker ∷ ls) (logs_are_kept entries workers)
+
+nothing_read : {F : Type 0} (more entries : List EntryData) (workers : List (WorkerData F)) → AllByRecursion (AreReadingsOf more) (logs_kept (map (kept_of entries) workers))
+nothing_read more entries [] = tt
+nothing_read more entries (worker ∷ workers) = (tt, nothing_read more entries workers)
+
+calls_are_kept : {F : Type 0} (entries : List EntryData) (workers : List (WorkerData F)) → calls_kept (map (kept_of entries) workers) ≡ calls_in (seats_in workers)
+calls_are_kept entries [] = refl
+calls_are_kept entries (worker ∷ workers) =
+    let here : calls_kept (map (kept_of entries) (worker ∷ workers)) ≡ worker.seat.calls + calls_kept (map (kept_of entries) workers) =
+    sum_by-cons (λ (k : KeptData). k.calls) (kept_of entries worker) (map (kept_of entries) workers) in
     let there : calls_in (seats_in (worker ∷ workers)) ≡ worker.seat.calls + calls_in (seats_in workers) = sum_by-cons (λ (s : SeatData). s.calls) worker.seat (seats_in workers) in
-    omega (arith, here, there, calls_are_kept workers)
+    omega (arith, here, there, calls_are_kept entries workers)
 
-jobs_are_kept : {F : Type 0} (workers : List (WorkerData F)) → jobs_of (logs_kept (map kept_of workers)) ≡ map (λ (w : WorkerData F). w.seat.job) workers
-jobs_are_kept [] = refl
-jobs_are_kept (worker ∷ workers) = ap (λ (js : List ℕ). worker.seat.job ∷ js) (jobs_are_kept workers)
+jobs_are_kept : {F : Type 0} (entries : List EntryData) (workers : List (WorkerData F)) → jobs_of (logs_kept (map (kept_of entries) workers)) ≡ map (λ (w : WorkerData F). w.seat.job) workers
+jobs_are_kept entries [] = refl
+jobs_are_kept entries (worker ∷ workers) = ap (λ (js : List ℕ). worker.seat.job ∷ js) (jobs_are_kept entries workers)
 
-well_kept : {F : Type 0} (workers : List (WorkerData F)) → AllByRecursion (λ (w : WorkerData F). IsKeptWell (kept_of w)) workers → AllByRecursion IsKeptWell (map kept_of workers)
-well_kept [] all = tt
-well_kept (worker ∷ workers) all = (all.0, well_kept workers all.1)
+-- the workers' receipts are those of their seats, whose logs are of the closed history
+well_kept : {F : Type 0} (entries : List EntryData) (workers : List (WorkerData F)) → AllByRecursion (λ (w : WorkerData F). HasReceipts w) workers → AllByRecursion (IsLogOf entries) (logs_of (seats_in workers))
+    → AllByRecursion IsKeptWell (map (kept_of entries) workers)
+well_kept entries [] all logs = tt
+well_kept entries (worker ∷ workers) all logs = (
+  record {
+    log_of = subst (λ (rs : List ReceiptData). IsLogOf entries (record { job = worker.seat.job; receipts = rs; readings = [] })) (sym all.0.same) logs.0;
+    counted = all.0.counted;
+    upto = refl;
+  },
+  well_kept entries workers all.1 logs.1,
+)
 
-longer_prefix : (some entries : List EntryData) (next : EntryData) → IsPrefix some entries → IsPrefix some (entries ++ next ∷ [])
-longer_prefix some entries next prefix = (prefix.0 ++ next ∷ [], sym (append_assoc some prefix.0 (next ∷ [])) ∙ ap (λ (es : List EntryData). es ++ next ∷ []) prefix.1)
+one_longer : (entries : List EntryData) (next : EntryData) → IsPrefix entries (entries ++ next ∷ [])
+one_longer entries next = (next ∷ [], refl)
 
-all_longer : {F : Type 0} (workers : List (WorkerData F)) (entries : List EntryData) (next : EntryData) → AllByRecursion (λ (w : WorkerData F). IsPrefix w.latest entries) workers → AreBefore (entries ++ next ∷ []) (map kept_of workers)
-all_longer [] entries next all = tt
-all_longer (worker ∷ workers) entries next all = (longer_prefix worker.latest entries next all.0, all_longer workers entries next all.1)
-
-prefix_short : (some entries : List EntryData) → IsPrefix some entries → length some ≤ length entries
-prefix_short some entries prefix =
-    let long : length entries ≡ length some + length prefix.0 = sym (ap (λ (es : List EntryData). length es) prefix.1) ∙ length-append some prefix.0 in
-    omega (arith, long)
+all_longer : {F : Type 0} (workers : List (WorkerData F)) (entries : List EntryData) (next : EntryData) → AreBefore (entries ++ next ∷ []) (map (kept_of entries) workers)
+all_longer [] entries next = tt
+all_longer (worker ∷ workers) entries next = (one_longer entries next, all_longer workers entries next)
 
 -- ---- the last entry's call
 
@@ -126,9 +141,8 @@ told_last entries last = record { place = length entries; op = last; answer = an
 
 abbrev asks_next : {F : Type 0} → WorkerData F → List EntryData → OpData → WorkerData F
 asks_next first entries last = record {
-  seat = after_call first.seat (length entries);
+  seat = after_call first.seat (told_last entries last);
   receipts = first.receipts ++ told_last entries last ∷ [];
-  latest = entries ++ next_entry entries 0 last ∷ [];
   has_reader = first.has_reader;
   readings = first.readings;
   refused = first.refused;
@@ -136,8 +150,8 @@ asks_next first entries last = record {
 
 -- what is known of the workers when all have handed in their parts, and the book is closed
 pub record AreClosed {F : Type 0} (workers : List (WorkerData F)) (entries : List EntryData) : Type 0 where
-  pub kept : AllByRecursion (λ (w : WorkerData F). IsKeptWell (kept_of w)) workers
-  pub before : AllByRecursion (λ (w : WorkerData F). IsPrefix w.latest entries) workers
+  pub receipts : AllByRecursion (λ (w : WorkerData F). HasReceipts w) workers
+  pub gathered : IsGathered entries (logs_of (seats_in workers))
   pub calls : length entries ≡ calls_in (seats_in workers)
   pub legal : IsLegal entries
   pub lawful : AreLawfulOps (ops_in entries)
@@ -164,18 +178,21 @@ text_asked {X} {F} chances inputs jobs first others entries refused whole last s
     let after : List (WorkerData F) = asker ∷ others in
     let more : List EntryData = entries ++ next ∷ [] in
     let zero_is : first.seat.job ≡ 0 = first_is jobs first.seat.job (map (λ (w : WorkerData F). w.seat.job) others) some whole.tell.are in
-    let short = prefix_short first.latest entries closed.before.0 in
-    let later : first.seat.seen ≤ length entries = omega (arith, short, closed.kept.0.upto) in
-    let own : IsKeptWell (kept_of asker) =
-    one_more (kept_of first).log first.seat.calls first.seat.seen first.latest entries next told closed.kept.0 (sym zero_is) refl refl later (longer_prefix first.latest entries next closed.before.0) in
-    let silent_after : AllByRecursion IsSilent after = (none.0, none.1) in
-    let before : AreBefore more (map kept_of after) = (([], append-nil more), all_longer others entries next closed.before.1) in
+    let well : AllByRecursion IsKeptWell (map (kept_of entries) (first ∷ others)) = well_kept entries (first ∷ others) closed.receipts closed.gathered.merge.kept in
+    let later : length entries ≤ length entries = omega arith in
     let long : length more ≡ length entries + 1 = length-append entries (next ∷ []) in
+    let own : IsKeptWell (kept_of more asker) =
+    subst (λ (seen : ℕ). IsKept (silent_log asker) (first.seat.calls + 1) seen more) (sym long)
+    (one_more (silent_log first) first.seat.calls (length entries) entries entries next told well.0 (sym zero_is) refl refl later (one_longer entries next)) in
+    let kept : List KeptData = kept_of more asker ∷ map (kept_of entries) others in
+    let silent_after : AllByRecursion IsSilent after = (none.0, none.1) in
+    let before : AreBefore more kept = (([], append-nil more), all_longer others entries next) in
     let own_calls : calls_in (seats_in (first ∷ others)) ≡ first.seat.calls + calls_in (seats_in others) = sum_by-cons (λ (s : SeatData). s.calls) first.seat (seats_in others) in
-    let more_calls : calls_in (seats_in after) ≡ first.seat.calls + 1 + calls_in (seats_in others) = sum_by-cons (λ (s : SeatData). s.calls) asker.seat (seats_in others) in
-    let count : length more ≡ calls_kept (map kept_of after) = omega (arith, long, closed.calls, own_calls, more_calls, calls_are_kept after) in
-    let gathered : IsGathered more (logs_kept (map kept_of after)) =
-    by_count more jobs (map kept_of after) (jobs_are_kept after ∙ whole.tell.are) (own, well_kept others closed.kept.1) (nothing_read more after) before count in
+    let more_calls : calls_kept kept ≡ first.seat.calls + 1 + calls_kept (map (kept_of entries) others) = sum_by-cons (λ (k : KeptData). k.calls) (kept_of more asker) (map (kept_of entries) others) in
+    let count : length more ≡ calls_kept kept = omega (arith, long, closed.calls, own_calls, more_calls, calls_are_kept entries others) in
+    let jobs_are : jobs_of (logs_kept kept) ≡ range_with_len 0 jobs = ap (λ (js : List ℕ). first.seat.job ∷ js) (jobs_are_kept entries others) ∙ whole.tell.are in
+    let gathered : IsGathered more (logs_kept kept) = by_count more jobs kept jobs_are (own, well.1) (tt, nothing_read more entries others) before count in
+    let logs : logs_kept kept ≡ logs_in after = ap (λ (ls : List LogData). silent_log asker ∷ ls) (logs_are_kept entries others) ∙ sym (logs_are_silent after silent_after) in
     let asks : FirstAsks (first ∷ others) after (length more) last = record {
       first = first;
       next = asker;
@@ -189,7 +206,7 @@ text_asked {X} {F} chances inputs jobs first others entries refused whole last s
     } in (
       logs_in after,
       collected_of chances inputs jobs (length more) last (first ∷ others) after more refused whole some asks same sorted (legal_next entries last goes totals closed.legal) (lawful_next entries last is closed.lawful)
-          (subst (λ (ls : List LogData). IsGathered more ls) (sym (logs_are_kept after silent_after)) gathered) refl goes texts,
+          (subst (λ (ls : List LogData). IsGathered more ls) logs gathered) refl goes texts,
     )
 
 -- what is collected before a text is asked
@@ -208,33 +225,3 @@ so_far MayGive MayFail inputs jobs (first ∷ others) entries refused some done 
       whole.outcomes,
       λ last is. text_asked (chances_of MayGive MayFail) inputs jobs first others entries refused whole last some is none closed same sorted goes totals texts one_more by_count,
     )
-
--- ---- the latest news of all workers
-
-all_of_map : {X Y : Type 0} (P : Y → Type 0) (f : X → Y) (xs : List X) → AllByRecursion (λ (x : X). P (f x)) xs → AllByRecursion P (map f xs)
-all_of_map P f [] all = tt
-all_of_map P f (x ∷ xs) all = (all.0, all_of_map P f xs all.1)
-
-all_by_map : {X Y : Type 0} (P : Y → Type 0) (f : X → Y) (xs : List X) → AllByRecursion P (map f xs) → AllByRecursion (λ (x : X). P (f x)) xs
-all_by_map P f [] all = tt
-all_by_map P f (x ∷ xs) all = (all.0, all_by_map P f xs all.1)
-
-pub latest_before : {F : Type 0} (latest : List (Option (List EntryData))) (workers : List (WorkerData F)) (entries : List EntryData) → map history_of latest ≡ map (λ (w : WorkerData F). w.latest) workers
-    → AllByRecursion (λ (own : Option (List EntryData)). IsPrefix (history_of own) entries) latest → AllByRecursion (λ (w : WorkerData F). IsPrefix w.latest entries) workers
-latest_before {F} latest workers entries same all =
-    all_by_map (λ (own : List EntryData). IsPrefix own entries) (λ (w : WorkerData F). w.latest) workers
-    (subst (λ (owns : List (List EntryData)). AllByRecursion (λ (own : List EntryData). IsPrefix own entries) owns) same (all_of_map (λ (own : List EntryData). IsPrefix own entries) history_of latest all))
-
-seen_short : {F : Type 0} (workers : List (WorkerData F)) (entries : List EntryData) → AllByRecursion (λ (w : WorkerData F). IsKeptWell (kept_of w)) workers
-    → AllByRecursion (λ (s : SeatData). s.seen ≤ length entries) (seats_in workers) → AllByRecursion (λ (w : WorkerData F). length w.latest ≤ length entries) workers
-seen_short [] entries kept seen = tt
-seen_short (w ∷ workers) entries kept seen = (omega (arith, kept.0.upto, seen.0), seen_short workers entries kept.1 seen.1)
-
--- no seat has seen more than this history, so none of the latest news are of a longer one
-pub latest_short : {F : Type 0} (latest : List (Option (List EntryData))) (workers : List (WorkerData F)) (entries : List EntryData) → map history_of latest ≡ map (λ (w : WorkerData F). w.latest) workers
-    → AllByRecursion (λ (w : WorkerData F). IsKeptWell (kept_of w)) workers → AllByRecursion (λ (s : SeatData). s.seen ≤ length entries) (seats_in workers)
-    → AllByRecursion (λ (own : Option (List EntryData)). length (history_of own) ≤ length entries) latest
-latest_short {F} latest workers entries same kept seen =
-    all_by_map (λ (own : List EntryData). length own ≤ length entries) history_of latest
-    (subst (λ (owns : List (List EntryData)). AllByRecursion (λ (own : List EntryData). length own ≤ length entries) owns) (sym same)
-    (all_of_map (λ (own : List EntryData). length own ≤ length entries) (λ (w : WorkerData F). w.latest) workers (seen_short workers entries kept seen)))

@@ -5,7 +5,7 @@ use Rattle.covdata.specs.Row.{SubmissionData}
 use Rattle.covbook.specs.declared.book.BookFault.{BookFault}
 use Rattle.covbook.specs.declared.reading.Reading.{Reading}
 use Rattle.covbook.specs.Gather.{IsReadingOf, LogData}
-use Rattle.covbook.specs.Kept.{IsPrefix, KeptData}
+use Rattle.covbook.specs.Kept.{IsPrefix}
 use Rattle.covbook.specs.Op.{OpData, SubmitOp, EntryData, ReceiptData}
 use Rattle.covbook.specs.Step.{IsLegal}
 use Rattle.covworkers.specs.declared.refused.RefusedInput.{RefusedInput}
@@ -63,19 +63,21 @@ abbrev pub ReadsOn : (has_reader : Bool) → (news : List EntryData) → (readin
 ReadsOn true news readings after = ReadsOnce news readings after
 ReadsOn false news readings after = after ≡ readings
 
--- what a worker has: its seat, its receipts, the history of the latest news of its calls, whether it has a reader, what it read of
--- the totals, and which of its inputs are refused
+-- what a worker has: its seat, its receipts, whether it has a reader, what it read of the totals, and which of its inputs are refused
 pub record WorkerData (F : Type 0) : Type 0 where
   pub seat : SeatData
   pub receipts : List ReceiptData
-  pub latest : List EntryData
   pub has_reader : Bool
   pub readings : List Reading
   pub refused : List (RefusedInput F)
 
--- what is known of a worker's calls without a history in memory
-abbrev pub kept_of : {F : Type 0} → WorkerData F → KeptData
-kept_of worker = record { log = record { job = worker.seat.job; receipts = worker.receipts; readings = [] }; calls = worker.seat.calls; seen = worker.seat.seen; latest = worker.latest }
+-- these are the receipts of the seat, one for each of its calls
+pub record AreReceiptsOf (seat : SeatData) (receipts : List ReceiptData) : Type 0 where
+  pub same : receipts ≡ seat.receipts
+  pub counted : length receipts ≡ seat.calls
+
+abbrev pub HasReceipts : {F : Type 0} → WorkerData F → Type 0
+HasReceipts worker = AreReceiptsOf worker.seat worker.receipts
 
 -- a worker may have a reader; without readers it has none
 abbrev pub MayHaveReader : Readers → Bool → Type 0

@@ -11,7 +11,7 @@ use crate::worker::Worker;
 use covbook::laws::{a_run_goes_on, calls_count_a_history, order_does_not_matter};
 use covbook::{Answered, Book, Receipt};
 use covdata::{Memory, ReadFault};
-use covlock::{Name, News, Seats, Start, open_book_keeping};
+use covlock::{Name, Seats, Start, open_book_keeping};
 use covreport::Table;
 use std::alloc::Global;
 use std::marker::Brand;
@@ -29,17 +29,15 @@ pub struct CollectedBook<S: Table<Global>, F: Drop = ReadFault> {
     pub refused: Refused<Global, F>,
 }
 
-ghost use Rattle.std.specs.Prelude.{◌≡◌, ◌↔◌, ◌<◌, ◌≤◌, Err, IfOk, IfErr, length, map};
+ghost use Rattle.std.specs.Prelude.{◌≡◌, ◌↔◌, ◌<◌, Err, IfOk, IfErr, length};
 ghost use Rattle.std.specs.List.{AllByRecursion};
 ghost use Rattle.std.specs.List.Sorted.{IsPermutation, IsNonDecreasingBy};
-ghost use Rattle.covbook.specs.Kept.{IsKeptWell, IsPrefix};
 ghost use Rattle.covbook.specs.Step.{max_entries};
 ghost use Rattle.covworkers.specs.declared.book_fault.IntoBookFault.TheVariants as into_book;
 ghost use Rattle.covworkers.specs.declared.collect_fault.CollectFault.TheVariants as faults;
 ghost use Rattle.covworkers.specs.declared.refused.RefusedInput.{RefusedInput};
 ghost use Rattle.covworkers.specs.Late.{IsCollectedSoFar, IsIntoBookFault};
-ghost use Rattle.covlock.specs.Latest.{history_of};
-ghost use Rattle.covworkers.specs.Work.{kept_of, seats_in, refused_in};
+ghost use Rattle.covworkers.specs.Work.{HasReceipts, seats_in, refused_in};
 ghost use Rattle.covlock.specs.Start.{AreJobs};
 
 /// Collects inputs as covjobs' `collect` does, but stores no history and no logs, and no job reads the totals. A worker reads its
@@ -110,13 +108,12 @@ fn collect_named<
         Readers::None,
         inputs,
     )?;
-    let (seats, latest, refused) = hand_in_news(alloc, workers)?;
-    let (book, news) = match book.close_book(rt, seats) {
-        Ok((book, news)) => (book, news),
+    let (seats, refused) = hand_in(alloc, workers)?;
+    let book = match book.close_book(rt, seats) {
+        Ok((book, _news)) => book,
         // No seat is missing: each worker returns its own.
         Err(_back) => unreachable!(),
     };
-    are_before(latest.as_slice(), &news);
     if book.is_full() {
         return Err(IntoBookFault::Collect(CollectFault::Full));
     }
@@ -126,50 +123,23 @@ fn collect_named<
     Ok(CollectedBook { book, refused })
 }
 
-/// Splits the workers into their seats, each job's latest news, and the rejected inputs in the inputs' order.
-fn hand_in_news<L: Name, F: Drop>(
+/// Splits the workers into their seats and the rejected inputs in the inputs' order.
+fn hand_in<L: Name, F: Drop>(
     alloc: Global,
     workers: Vec<Worker<L, Global, Snapshot<Receipt>, F>>,
-) -> Result<(Seats<L>, Vec<Option<News<L>>>, Refused<Global, F>), Memory>
+) -> Result<(Seats<L>, Refused<Global, F>), Memory>
     ensures seats { IfOk result (λ r. r.0 ≡ seats_in workers.items) }
-    ensures latest { IfOk result (λ r. map history_of r.1.items ≡ map (λ w. w.latest) workers.items) }
-    ensures refused { IfOk result (λ r. IsPermutation (refused_in workers.items) r.2) }
-    ensures ascending { IfOk result (λ r. IsNonDecreasingBy (λ (i : RefusedInput F). i.index) r.2) }
-    ensures kept { IfOk result (λ _. AllByRecursion (λ w. IsKeptWell (kept_of w)) workers.items) }
+    ensures refused { IfOk result (λ r. IsPermutation (refused_in workers.items) r.1) }
+    ensures ascending { IfOk result (λ r. IsNonDecreasingBy (λ (i : RefusedInput F). i.index) r.1) }
+    ensures receipts { IfOk result (λ _. AllByRecursion (λ w. HasReceipts w) workers.items) }
 {
     let mut seats = Seats::new(alloc);
-    let mut latest = Vec::new(alloc);
     let mut refused = Refused::new(alloc);
     for worker in workers {
-        let (seat, own_latest, own_refused) = worker.into_news();
+        let (seat, own_refused) = worker.into_seat();
         seats.push(seat)?;
-        latest.push(own_latest)?;
         refused.append(own_refused)?;
     }
     refused.sort();
-    Ok((seats, latest, refused))
-}
-
-/// Proof only: each history in `latest` is a prefix of the history of `news`, since none is longer.
-fn are_before<L: Name>(latest: &[Option<News<L>>], news: &News<L>)
-    requires { AllByRecursion (λ own. length (history_of own) ≤ length news.now) latest.now }
-    ensures { AllByRecursion (λ own. IsPrefix (history_of own) news.now) latest.now }
-{
-    for own in latest {
-        is_before(own, news);
-    }
-}
-
-/// Proof only: the history of `latest` is a prefix of the history of `news`, since it isn't longer. `None` stands for the empty
-/// history.
-fn is_before<L: Name>(latest: &Option<News<L>>, news: &News<L>)
-    requires { length (history_of latest.now) ≤ length news.now }
-    ensures { IsPrefix (history_of latest.now) news.now }
-{
-    match latest {
-        Some(latest) => {
-            latest.longer(news);
-        }
-        None => {}
-    }
+    Ok((seats, refused))
 }

@@ -11,16 +11,15 @@ use crate::shares::Placed;
 use crate::stop::{Refusal, Stop};
 use covbook::{BookFault, Entry, JobLog, Keep, Op, Readings, Receipt, Receipts};
 use covdata::{Memory, ReadFault};
-use covlock::{Done, Live, Name, News, Seat, Shared, later};
+use covlock::{Done, Live, Name, News, Seat, Shared};
 use covreport::Table;
 use std::alloc::{Allocator, Global};
 use std::marker::Model;
 use std::snapshot::Snapshot;
 use std::sync::Wait;
 
-/// A job at work: its seat, receipts, latest news, readings of the totals, rejected inputs, and reader if it has one. `P` is the
-/// part of each receipt that is stored. Contracts see whole receipts, the history of the latest news, and whether the job has a
-/// reader. The receipts are a log of that history.
+/// A job at work: its seat, receipts, readings of the totals, rejected inputs, and reader if it has one. `P` is the part of each
+/// receipt that is stored. Contracts see whole receipts, and whether the job has a reader. The receipts are those of the seat.
 #[derive(Drop)]
 pub(crate) struct Worker<
     L: Name,
@@ -28,26 +27,23 @@ pub(crate) struct Worker<
     P: Keep<Of = Receipt<A>> = Receipt<A>,
     F: Drop = ReadFault,
 > {
-    seat: Seat<L>,
+    seat: Seat<L, A>,
     receipts: Vec<P, A>,
-    latest: Option<News<L>>,
     readings: Readings<A>,
     refused: Refused<A, F>,
     live: Option<Live<L, A>>,
 }
 
 impl<L: Name, A: Allocator, P: Keep<Of = Receipt<A>>, F: Drop> Model for Worker<L, A, P, F> {
-    ghost use Rattle.std.specs.Prelude.{[], is_some, map};
+    ghost use Rattle.std.specs.Prelude.{is_some, map};
     ghost use Rattle.covbook.specs.EntryView.{receipt_data};
-    ghost use Rattle.covbook.specs.Kept.{IsKept};
-    ghost use Rattle.covlock.specs.Latest.{history_of};
-    ghost use Rattle.covworkers.specs.Work.{WorkerData};
+    ghost use Rattle.covworkers.specs.Work.{AreReceiptsOf, WorkerData};
 
     ghost Value = { WorkerData F };
 
-    ghost view = { λ a. record { seat = a.seat; receipts = map (λ p. receipt_data (P.shows p)) a.receipts.items; latest = history_of a.latest; has_reader = is_some a.live; readings = a.readings; refused = a.refused } };
+    ghost view = { λ a. record { seat = a.seat; receipts = map (λ p. receipt_data (P.shows p)) a.receipts.items; has_reader = is_some a.live; readings = a.readings; refused = a.refused } };
 
-    ghost invariant = { λ a. IsKept (record { job = a.seat.job; receipts = map (λ p. receipt_data (P.shows p)) a.receipts.items; readings = [] }) a.seat.calls a.seat.seen (history_of a.latest) };
+    ghost invariant = { λ a. AreReceiptsOf a.seat (map (λ p. receipt_data (P.shows p)) a.receipts.items) };
 }
 
 impl<L: Name, A: Allocator + Copy, P: Keep<Of = Receipt<A>>, F: Drop> Worker<L, A, P, F> {
@@ -61,7 +57,7 @@ impl<L: Name, A: Allocator + Copy, P: Keep<Of = Receipt<A>>, F: Drop> Worker<L, 
     ghost use Rattle.covlock.specs.Seat.{fresh_seat};
 
     /// A worker that has done nothing yet.
-    fn new(alloc: A, seat: Seat<L>, live: Option<Live<L, A>>) -> Worker<L, A, P, F>
+    fn new(alloc: A, seat: Seat<L, A>, live: Option<Live<L, A>>) -> Worker<L, A, P, F>
         requires { seat ≡ fresh_seat seat.job }
         ensures seat { result.seat ≡ seat }
         ensures receipts { result.receipts ≡ [] }
@@ -72,7 +68,6 @@ impl<L: Name, A: Allocator + Copy, P: Keep<Of = Receipt<A>>, F: Drop> Worker<L, 
         Worker {
             seat,
             receipts: Vec::new(alloc),
-            latest: None,
             readings: Readings::new(alloc),
             refused: Refused::new(alloc),
             live,
@@ -221,7 +216,6 @@ impl<L: Name, A: Allocator + Copy, P: Keep<Of = Receipt<A>>, F: Drop> Worker<L, 
         self.receipts.reserve(1).map_err(|_| BookFault::Memory)?;
         let Done { receipt, news } = book.perform(rt, alloc, &mut self.seat, op)?;
         self.receipts.push_reserved(P::keep(receipt));
-        self.latest = Some(later(&self.latest, &news));
         Ok(news)
     }
 
@@ -259,9 +253,7 @@ fn read_once<L: Name, A: Allocator>(
 
 impl<L: Name, A: Allocator, P: Keep<Of = Receipt<A>>, F: Drop> Worker<L, A, P, F> {
     ghost use Rattle.std.specs.Prelude.{◌≡◌, length};
-    ghost use Rattle.covbook.specs.Kept.{IsKeptWell};
-    ghost use Rattle.covlock.specs.Latest.{history_of};
-    ghost use Rattle.covworkers.specs.Work.{kept_of};
+    ghost use Rattle.covworkers.specs.Work.{HasReceipts};
 
     /// How many submissions the job has made: one for each receipt.
     pub(crate) fn submissions(&self) -> u64
@@ -277,22 +269,20 @@ impl<L: Name, A: Allocator, P: Keep<Of = Receipt<A>>, F: Drop> Worker<L, A, P, F
         self.seat.seen()
     }
 
-    /// Consumes the worker, and returns the job's seat, the latest news of its calls, and its rejected inputs.
-    pub(crate) fn into_news(self) -> (Seat<L>, Option<News<L>>, Refused<A, F>)
+    /// Consumes the worker, and returns the job's seat and its rejected inputs.
+    pub(crate) fn into_seat(self) -> (Seat<L, A>, Refused<A, F>)
         ensures seat { result.0 ≡ self.seat }
-        ensures latest { history_of result.1 ≡ self.latest }
-        ensures refused { result.2 ≡ self.refused }
-        ensures kept { IsKeptWell (kept_of self) }
+        ensures refused { result.1 ≡ self.refused }
+        ensures receipts { HasReceipts self }
     {
         let Worker {
             seat,
             receipts: _,
-            latest,
             readings: _,
             refused,
             live: _,
         } = self;
-        (seat, latest, refused)
+        (seat, refused)
     }
 }
 
@@ -300,7 +290,7 @@ impl<L: Name, A: Allocator> Worker<L, A> {
     ghost use Rattle.std.specs.Prelude.{◌≡◌};
 
     /// Consumes the worker, and returns the job's seat, its log, and its rejected inputs.
-    pub(crate) fn into_parts(self) -> (Seat<L>, JobLog<A>, Refused<A>)
+    pub(crate) fn into_parts(self) -> (Seat<L, A>, JobLog<A>, Refused<A>)
         ensures seat { result.0 ≡ self.seat }
         ensures job { result.1.job ≡ self.seat.job }
         ensures receipts { result.1.receipts ≡ self.receipts }
@@ -310,7 +300,6 @@ impl<L: Name, A: Allocator> Worker<L, A> {
         let Worker {
             seat,
             receipts,
-            latest: _,
             readings,
             refused,
             live: _,
@@ -348,7 +337,7 @@ pub(crate) fn work<
     alloc: A,
     book: &Shared<L, A, S, K>,
     gate: &G,
-    seat: Seat<L>,
+    seat: Seat<L, A>,
     jobs: u32,
     readers: Readers,
     inputs: &Snapshot<Vec<T>>,

@@ -38,7 +38,7 @@ fn perform<L: Name, A: Allocator + Copy, R: Wait, T: Table<A>>(
     rt: &R,
     alloc: A,
     book: &Shared<L, A, T>,
-    seat: &mut Seat<L>,
+    seat: &mut Seat<L, A>,
     op: &Op<A>,
 ) -> Result<Done<L, A>, BookFault> {
     book.perform(rt, alloc, seat, op)
@@ -55,7 +55,7 @@ fn reader<L: Name, A: Allocator + Copy, R: Wait, T: Table<A>>(
 fn history_of<L: Name, A: Allocator + Copy, R: Wait + Abort, T: Table<A>>(
     rt: &R,
     book: Shared<L, A, T>,
-    seats: Vec<Seat<L>, A>,
+    seats: Vec<Seat<L, A>, A>,
 ) -> Entries<A> {
     match book.close(rt, Seats::of(seats)) {
         Ok((entries, _news)) => entries,
@@ -76,7 +76,7 @@ fn check_live<L: Name, A: Allocator>(
 }
 
 /// Checks that the seat made `calls` successful calls, and has seen as many entries.
-fn check_seat<L: Name>(rt: &impl Abort, seat: &Seat<L>, calls: u64) {
+fn check_seat<L: Name, A: Allocator>(rt: &impl Abort, seat: &Seat<L, A>, calls: u64) {
     assert_eq!(rt; (seat.calls(), seat.seen()), (calls, calls));
 }
 
@@ -204,7 +204,7 @@ fn begins<L: Name, A: Allocator + Copy, R: Wait + Abort, T: Table<A>>(
     rt: &R,
     alloc: A,
     book: &Shared<L, A, T>,
-    seat: &mut Seat<L>,
+    seat: &mut Seat<L, A>,
 ) -> Totals {
     let op = op_of(rt, alloc, BEGUN.asked);
     made(rt, perform(rt, alloc, book, seat, &op))
@@ -218,7 +218,7 @@ fn perform_narrowly<L: Name, A: Allocator + Copy, R: Wait + Abort, T: Table<A>>(
     rt: &R,
     alloc: A,
     book: &Shared<L, A, T>,
-    seat: &mut Seat<L>,
+    seat: &mut Seat<L, A>,
     op: &Op<A>,
     tried: Narrow<'_>,
 ) -> Result<Done<L, A>, BookFault> {
@@ -233,7 +233,7 @@ fn asks<L: Name, A: Allocator + Copy, R: Wait + Abort, T: Table<A>>(
     rt: &R,
     alloc: A,
     book: &Shared<L, A, T>,
-    seat: &mut Seat<L>,
+    seat: &mut Seat<L, A>,
     tried: Narrow<'_>,
     step: Step<'_>,
 ) -> bool {
@@ -260,7 +260,7 @@ fn asks<L: Name, A: Allocator + Copy, R: Wait + Abort, T: Table<A>>(
 fn check_done<L: Name, A: Allocator + Copy>(
     rt: &impl Abort,
     alloc: A,
-    seat: &Seat<L>,
+    seat: &Seat<L, A>,
     done: &Done<L, A>,
     live: &mut Live<L, A>,
     step: Step<'_>,
@@ -321,7 +321,7 @@ fn hands_in<L: Name, A: Allocator + Copy>(
 }
 
 /// Checks that the seats are those of the jobs 0 to 8 in ascending order, without the job `given_up`.
-fn check_jobs<L: Name>(rt: &impl Abort, seats: &[Seat<L>], given_up: Option<u32>) {
+fn check_jobs<L: Name, A: Allocator>(rt: &impl Abort, seats: &[Seat<L, A>], given_up: Option<u32>) {
     let mut job = 0u32;
     for seat in seats {
         if given_up == Some(job) {

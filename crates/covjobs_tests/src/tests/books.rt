@@ -28,7 +28,7 @@ pub(super) fn opened<L: Name, A: Allocator + Copy, T: Table<A>>(
     rt: &impl Abort,
     alloc: A,
     start: Start<A>,
-) -> (Shared<L, A, T>, Vec<Seat<L>, A>)
+) -> (Shared<L, A, T>, Vec<Seat<L, A>, A>)
     requires name { start.name ≡ L.name }
     requires jobs { start.jobs ≡ L.parts }
     requires book { start.book ≡ L.book }
@@ -40,7 +40,10 @@ pub(super) fn opened<L: Name, A: Allocator + Copy, T: Table<A>>(
 }
 
 /// The first of the seats.
-pub(super) fn first_of<'a, L: Name>(rt: &impl Abort, seats: &'a mut [Seat<L>]) -> &'a mut Seat<L> {
+pub(super) fn first_of<'a, L: Name, A: Allocator>(
+    rt: &impl Abort,
+    seats: &'a mut [Seat<L, A>],
+) -> &'a mut Seat<L, A> {
     match seats.first_mut() {
         Some(seat) => seat,
         None => panic!(rt; "no seat"),
@@ -51,7 +54,7 @@ pub(super) fn first_of<'a, L: Name>(rt: &impl Abort, seats: &'a mut [Seat<L>]) -
 pub(super) fn closed<L: Name, A: Allocator + Copy, R: Wait + Abort, T: Table<A>>(
     rt: &R,
     book: Shared<L, A, T>,
-    seats: Vec<Seat<L>, A>,
+    seats: Vec<Seat<L, A>, A>,
 ) -> (Entries<A>, News<L>) {
     match close(rt, book, seats) {
         Ok((entries, news)) => (entries, news),
@@ -63,7 +66,7 @@ pub(super) fn closed<L: Name, A: Allocator + Copy, R: Wait + Abort, T: Table<A>>
 pub(super) fn history_of<L: Name, A: Allocator + Copy, R: Wait + Abort, T: Table<A>>(
     rt: &R,
     book: Shared<L, A, T>,
-    seats: Vec<Seat<L>, A>,
+    seats: Vec<Seat<L, A>, A>,
 ) -> Entries<A> {
     closed(rt, book, seats).0
 }

@@ -20,7 +20,7 @@ fn summaries<L: Name, A: Allocator + Copy, R: Wait, T: Table<A>>(
     rt: &R,
     alloc: A,
     book: &Shared<L, A, T>,
-    seat: &mut Seat<L>,
+    seat: &mut Seat<L, A>,
     most: u64,
 ) -> (u64, Option<BookFault>) {
     for answered in 0..most {
@@ -32,7 +32,7 @@ fn summaries<L: Name, A: Allocator + Copy, R: Wait, T: Table<A>>(
 }
 
 /// Checks that `calls` of the seat's calls succeeded, and that the seat saw only the entries of these calls.
-fn check_seat<L: Name>(rt: &impl Abort, seat: &Seat<L>, calls: u64) {
+fn check_seat<L: Name, A: Allocator>(rt: &impl Abort, seat: &Seat<L, A>, calls: u64) {
     assert_eq!(rt; (seat.calls(), seat.seen()), (calls, calls));
 }
 
@@ -42,7 +42,7 @@ fn fill_heap<L: Name, A: Allocator + Copy, R: Wait + Abort, T: Table<A>>(
     rt: &R,
     alloc: A,
     book: &Shared<L, A, T>,
-    seat: &mut Seat<L>,
+    seat: &mut Seat<L, A>,
 ) -> u64 {
     let Ok(room) = vec![in alloc; 0u8; 600_000] else {
         panic!(rt; "no room from the start");
@@ -61,7 +61,7 @@ fn check_refusal<L: Name, A: Allocator + Copy, R: Wait + Abort, T: Table<A>>(
     rt: &R,
     alloc: A,
     book: &Shared<L, A, T>,
-    seat: &mut Seat<L>,
+    seat: &mut Seat<L, A>,
 ) -> u64 {
     let succeeded = fill_heap(rt, alloc, book, seat);
     match done(rt, alloc, book, seat, &Op::Summary) {
@@ -92,7 +92,7 @@ fn no_room<L: Name, A: Allocator + Copy, R: Wait + Abort, T: Table<A>>(
 fn check_length<L: Name, A: Allocator + Copy, R: Wait + Abort, T: Table<A>>(
     rt: &R,
     book: Shared<L, A, T>,
-    seats: Vec<Seat<L>, A>,
+    seats: Vec<Seat<L, A>, A>,
     calls: u64,
 ) {
     let entries = history_of(rt, book, seats);

@@ -17,7 +17,7 @@ pub(super) fn done<L: Name, A: Allocator + Copy, R: Wait, T: Table<A>>(
     rt: &R,
     alloc: A,
     book: &Shared<L, A, T>,
-    seat: &mut Seat<L>,
+    seat: &mut Seat<L, A>,
     op: &Op<A>,
 ) -> Result<Done<L, A>, BookFault> {
     book.perform(rt, alloc, seat, op)
@@ -26,7 +26,7 @@ pub(super) fn done<L: Name, A: Allocator + Copy, R: Wait, T: Table<A>>(
 pub(super) fn close<L: Name, A: Allocator + Copy, R: Wait, T: Table<A>>(
     rt: &R,
     book: Shared<L, A, T>,
-    seats: Vec<Seat<L>, A>,
+    seats: Vec<Seat<L, A>, A>,
 ) -> Result<(Entries<A>, News<L>), (Shared<L, A, T>, Seats<L, A>, CloseFault)> {
     book.close(rt, Seats::of(seats))
 }

@@ -1,48 +1,32 @@
 use denote.Param.Send.{sendable}
-use Rattle.std.proofs.Common.{rules, ◌∙◌, ◌≤◌, IsTrue, ℕ, List, Option, length, ap, subst, sym}
+use Rattle.std.proofs.Common.{rules, ◌∙◌, IsTrue, ℕ, List, ap, subst}
 use Rattle.std.proofs.Crossing as heap
-use Rattle.std.specs.List.{AllByRecursion}
-use Rattle.covbook.specs.Kept.{IsPrefix}
+use Rattle.covbook.specs.Gather.{IsGathered}
 use Rattle.covbook.specs.Op.{EntryData}
 use Rattle.covlock.specs.CloseFault.{told_job}
 use Rattle.covlock.specs.Handed.{IsLeastMissing}
-use Rattle.covlock.specs.Seat.{SeatData, calls_in}
+use Rattle.covlock.specs.Seat.{SeatData, calls_in, logs_of}
 use Rattle.covworkers.specs.declared.readers.Readers.TheVariants as readers
 use Rattle.covworkers.specs.Late.{chances_of}
-use Rattle.covlock.specs.Latest.{history_of}
 use Rattle.covworkers.specs.Work.{seats_in}
 use Rattle.covworkers.proofs.AllSeated.{none_missing_yet}
 use Rattle.covworkers.proofs.Filled.{filled_if_closed}
-use Rattle.covworkers.proofs.SoFar.{AreClosed, latest_before, latest_short, so_far}
+use Rattle.covworkers.proofs.SoFar.{AreClosed, so_far}
 use Rattle.covworkers.proofs.into_book.collect_named.Goals as goal
 
 pub returns-clause-collected : goal.returns-clause-collected
 returns-clause-collected g c =
     let workers = c.in_ok-workers.workers.items in
     let entries : List EntryData = c.in-Ok.book.entries in
-    let latest : List (Option (List EntryData)) = c.in_ok-seats.latest.items in
-    let told : AllByRecursion (λ (own : Option (List EntryData)). IsPrefix (history_of own) c.in-Ok.news) latest =
-    subst (λ (owns : List (Option (List EntryData))). AllByRecursion (λ (own : Option (List EntryData)). IsPrefix (history_of own) c.in-Ok.news) owns) c.as_slice.ensures.value c.are_before.ensures in
     let closed : AreClosed workers entries = record {
-      kept = c.in_ok-seats.ensures.kept;
-      before = latest_before latest workers entries c.in_ok-seats.ensures.latest (subst (λ (es : List EntryData). AllByRecursion (λ (own : Option (List EntryData)). IsPrefix (history_of own) es) latest) c.in-Ok.ensures.news told);
+      receipts = c.in_ok-seats.ensures.receipts;
+      gathered = subst (λ (seats : List SeatData). IsGathered entries (logs_of seats)) c.in_ok-seats.ensures.seats c.in-Ok.ensures.gathered;
       calls = c.in-Ok.ensures.calls ∙ ap calls_in c.in_ok-seats.ensures.seats;
       legal = c.in-Ok.ensures.history;
       lawful = c.in-Ok.ensures.lawful;
     } in
     so_far g.T.LateInput.may_give g.T.LateInput.may_fail c.args.inputs.items c.args.jobs workers entries c.in_ok-seats.refused c.requires.some c.in_ok-workers.ensures.done closed c.in_ok-seats.ensures.refused
     c.in_ok-seats.ensures.ascending c.a_run_goes_on.ensures.answers c.a_run_goes_on.ensures.totals c.order_does_not_matter.ensures.texts c.calls_count_a_history.ensures.one_more c.calls_count_a_history.ensures.gathered
-
--- no worker has seen more than the closed history
-pub are_before-requires : goal.are_before-requires
-are_before-requires g c =
-    let workers = c.in_ok-workers.workers.items in
-    let entries : List EntryData = c.in-Ok.book.entries in
-    let latest : List (Option (List EntryData)) = c.in_ok-seats.latest.items in
-    let seen : AllByRecursion (λ (s : SeatData). s.seen ≤ length entries) (seats_in workers) = subst (λ (seats : List SeatData). AllByRecursion (λ (s : SeatData). s.seen ≤ length entries) seats) c.in_ok-seats.ensures.seats c.in-Ok.ensures.seen in
-    let short = latest_short latest workers entries c.in_ok-seats.ensures.latest c.in_ok-seats.ensures.kept seen in
-    subst (λ (owns : List (Option (List EntryData))). AllByRecursion (λ (own : Option (List EntryData)). length (history_of own) ≤ length c.in-Ok.news) owns) (sym c.as_slice.ensures.value)
-    (subst (λ (es : List EntryData). AllByRecursion (λ (own : Option (List EntryData)). length (history_of own) ≤ length es) latest) (sym c.in-Ok.ensures.news) short)
 
 -- no seat is missing, since each worker hands in its own
 pub unreachable-requires : goal.unreachable-requires
@@ -65,5 +49,5 @@ pub returns-then-is_full-clause-unread : goal.returns-then-is_full-clause-unread
 returns-then-is_full-clause-unread g c =
     let entries : List EntryData = c.in-Ok.book.entries in
     let yes : IsTrue c.is_full.result = search rules in
-    filled_if_closed g.T.LateInput.may_give g.T.LateInput.may_fail readers.None c.args.inputs.items c.args.jobs c.in_ok-workers.workers.items entries c.requires.some c.in_ok-workers.ensures.done c.in_ok-seats.ensures.kept
+    filled_if_closed g.T.LateInput.may_give g.T.LateInput.may_fail readers.None c.args.inputs.items c.args.jobs c.in_ok-workers.workers.items entries c.requires.some c.in_ok-workers.ensures.done c.in_ok-seats.ensures.receipts
     (c.in-Ok.ensures.calls ∙ ap calls_in c.in_ok-seats.ensures.seats) (c.is_full.ensures.full.0 yes)

@@ -5,7 +5,7 @@ use Rattle.std.proofs.Crossing as heap
 use Rattle.covbook.proofs.op.Op.TheSendSync as op
 use Rattle.covbook.proofs.entry.Entry.TheSendSync as entry
 use Rattle.covlock.proofs.Crossing.{shared_sync}
-use Rattle.covbench.proofs.pace.Submitter.TheSendSync as submitter
+use Rattle.covbench.proofs.Crossing.{submitter_send}
 use Rattle.covbench.proofs.pace.fn.run.scope.Goals as goal
 
 -- the closure may go to another thread, since threads may share the book
@@ -14,4 +14,4 @@ spawn-started-requires-send-F g c κs within =
     let runtime : IsSync g.row.R = search (rules, c.requires) parts 8 in
     let table : IsSend g.row.T = search (rules, c.requires) parts 8 in
     let stored : IsSend (param 2 g.row.T) = search (rules, sendable, table) depth 20 in
-    search (sendable, heap.crosses, shared_sync, entry.the_send, op.the_sync, submitter.the_send) depth 60 fits 20000
+    search (sendable, heap.crosses, shared_sync, entry.the_send, op.the_sync, submitter_send) depth 60 fits 20000

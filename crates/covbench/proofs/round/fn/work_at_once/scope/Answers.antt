@@ -4,7 +4,7 @@ use denote.Param.Send.{IsSend, IsSync, sendable}
 use Rattle.std.proofs.Crossing as heap
 use Rattle.covbook.proofs.entry.Entry.TheSendSync as entry
 use Rattle.covlock.proofs.Crossing.{shared_sync}
-use Rattle.covbench.proofs.job.Job.TheSendSync as job
+use Rattle.covbench.proofs.Crossing.{job_send}
 use Rattle.covbench.proofs.round.fn.work_at_once.scope.Goals as goal
 
 -- the closure may go to another thread, since threads may share the book
@@ -13,4 +13,4 @@ spawn-requires-send-F g c κs within =
     let runtime : IsSync g.row.R = search (rules, c.requires) parts 8 in
     let table : IsSend g.row.T = search (rules, c.requires) parts 8 in
     let stored : IsSend (param 2 g.row.T) = search (rules, sendable, table) depth 20 in
-    search (sendable, heap.crosses, shared_sync, entry.the_send, job.the_send) depth 60 fits 20000
+    search (sendable, heap.crosses, shared_sync, entry.the_send, job_send) depth 60 fits 20000

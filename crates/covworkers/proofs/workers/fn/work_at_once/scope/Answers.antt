@@ -4,8 +4,7 @@ use denote.Param.Send.{IsSend, IsSync, sendable}
 use Rattle.std.proofs.Common.{◌≡◌, ◌∙◌, ◌++◌, IsTrue, List, [], map, ap, arith}
 use Rattle.std.proofs.Crossing as heap
 use Rattle.std.proofs.lemmas.List.{nil_from_length}
-use Rattle.covlock.proofs.Crossing.{shared_sync}
-use Rattle.covlock.proofs.seat.Seat.TheSendSync as seat
+use Rattle.covlock.proofs.Crossing.{seat_send, shared_sync}
 use Rattle.covlock.specs.Seat.{SeatData}
 use Rattle.covworkers.specs.Late.{chances_of}
 use Rattle.covworkers.specs.Work.{WorkData, work_of}
@@ -33,4 +32,4 @@ spawn_with-requires-send-F g c κs within =
     let text : IsSend (param 3 g.row.T) = search (rules, c.requires) parts 8 in
     let kept : IsSend (param 4 g.row.K) = search (rules, c.requires) parts 8 in
     let stored : IsSend (param 6 g.row.S) = search (rules, c.requires) parts 8 in
-    search (sendable, heap.crosses, shared_sync, seat.the_send, placed.the_send) depth 60 fits 20000
+    search (sendable, heap.crosses, shared_sync, seat_send, placed.the_send) depth 60 fits 20000
