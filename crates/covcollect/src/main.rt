@@ -24,9 +24,10 @@ use covcommand::{CommandFault, word_at};
 pub use covlaws::{
     a_merge_of_merges_is_the_merge_of_all, each_report_of_a_history_reads_back, reports_read_back,
 };
-use covrun::{FromFiles, IntoFiles, Sinks, World, refuse, run};
+use covrun::{Sinks, World, refuse, run};
 use covstore::Store;
 use covstream::{FromRead, FromWrite};
+use covworld::{FromFiles, IntoFiles};
 use std::env::FillError;
 use std::io;
 use std::process::ExitCode;

@@ -30,11 +30,11 @@ use Rattle.covsession.specs.declared.session.fault.SessionFault.{SessionFault}
 use Rattle.covsession.specs.declared.session.fault.SessionFault.TheVariants as faults
 use Rattle.covrun.specs.Check.{OutcomeData, Unread, Refused, Held, IsOutcome, IsCheck, EndsWithin, outcome_line, outcome_complaint, check_lines, check_complaints, is_unread, is_refused, is_accepted, is_unaccepted}
 use Rattle.covrun.specs.Checked.{AnswersText, AreExamined, IsExamined, IsReportOf, IsTextExamined, Reports, ReportsFile, Says, TellsEach, TellsExamined, TellsOne, verdict_of, worse, worst_of}
-use Rattle.covrun.specs.Files.{IsUnread}
-use Rattle.covrun.specs.Folder.{FolderData, IsTextOf}
+use Rattle.covworld.specs.Files.{IsUnread}
+use Rattle.covworld.specs.Folder.{FolderData, IsTextOf}
 use Rattle.covstream.specs.declared.fault.BlockFault.{BlockFault}
 use Rattle.covstream.specs.declared.fault.BlockFault.TheVariants as files
-use Rattle.covrun.specs.Streams.{SinksData, Complains, IsSilent, Withholds}
+use Rattle.covworld.specs.Streams.{SinksData, Complains, IsSilent, Withholds}
 use Rattle.covrun.specs.declared.check_verdict.CheckVerdict.{CheckVerdict}
 use Rattle.covrun.specs.declared.check_verdict.CheckVerdict.TheVariants as verdicts
 use Rattle.covrun.specs.declared.file_report.FileReport.{FileReport}

@@ -37,12 +37,12 @@ use Rattle.covrun.specs.declared.work.WorkFault.{WorkFault}
 use Rattle.covrun.specs.declared.work.WorkFault.TheVariants.{Words, Memory}
 use Rattle.covrun.specs.Call.{StopsEarly, AreTextsIn, IsUnreadable, WorkEnds, IsServed, IsWorkDone, IsTaskDone, IsCutShort, IsEndingPrinted, IsEndingReported, IsEndingWritten, IsUnwritten, IsWritten}
 use Rattle.covrun.specs.Check.{IsCheck}
-use Rattle.covrun.specs.Folder.{FolderData}
+use Rattle.covworld.specs.Folder.{FolderData}
 use Rattle.covrun.specs.Naming.{naming_of, told_lines, told_name}
 use Rattle.covrun.specs.declared.naming.Naming.{Naming}
 use Rattle.covrun.specs.declared.naming.Naming.TheVariants as namings
-use Rattle.covrun.specs.Streams.{SinksData, Complains, Delivers, DeliversAndComplains, IsSilent, Withholds}
-use Rattle.covrun.specs.World.{WorldData, ChangesSinksAlone}
+use Rattle.covworld.specs.Streams.{SinksData, Complains, Delivers, DeliversAndComplains, IsSilent, Withholds}
+use Rattle.covworld.specs.World.{WorldData, ChangesSinksAlone}
 use Rattle.covrun.specs.View.{failure_data}
 use Rattle.covrun.specs.declared.ending.Failure.{Failure}
 use Rattle.covrun.specs.declared.ending.Failure.TheVariants as failures

@@ -23,8 +23,8 @@ use Rattle.covdata.specs.Row.{SubmissionData}
 use Rattle.covdata.specs.declared.fault.ReadFault.{ReadFault}
 use Rattle.covrun.specs.Check.{IsAnswered}
 use Rattle.covrun.specs.Files.{EndsBy, IsOpenedFor, IsTakenFrom, IsToldFor, IsWholeFormat, MayFailAs, MayHaveOutcome, MayTake, TakesLast, most_parts}
-use Rattle.covrun.specs.Folder.{FolderData, folder_data}
-use Rattle.covrun.specs.declared.folder.Folder.{Ghosts as FolderOf}
+use Rattle.covworld.specs.Folder.{FolderData, folder_data}
+use Rattle.covworld.specs.declared.folder.Folder.{Ghosts as FolderOf}
 use Rattle.covstream.specs.declared.stream.Source.{Ghosts as SourceOf}
 use Rattle.covrun.specs.Large.{IsRefusedFor, IsTaken, IsTakenIf}
 use Rattle.covrun.specs.Strict.{is_clean}

@@ -2,8 +2,6 @@ pub mod Checks
 pub mod Large
 pub mod Lenient
 pub mod Endings
-pub mod Folders
 pub mod Patterns
 pub mod Places
-pub mod PrintedSteps
 pub mod Reading

@@ -21,7 +21,7 @@ use Rattle.covrun.proofs.Lenient.{are_collected}
 use Rattle.covrun.specs.Call.{AreCollectedIn, AreTextsIn, IsTakenIn, IsUnreadable}
 use Rattle.covrun.specs.Ending.{name_at}
 use Rattle.covrun.specs.Files.{MayFailAs, MayTake}
-use Rattle.covrun.specs.Folder.{AreTextsOf, FolderData, IsTextAtMost, IsTextOf}
+use Rattle.covworld.specs.Folder.{AreTextsOf, FolderData, IsTextAtMost, IsTextOf}
 use Rattle.covrun.specs.Strict.{IsOutcomeFor}
 use Rattle.covrun.specs.Work.{input_of}
 use Rattle.covrun.specs.declared.text_fault.TextFault.{TextFault}

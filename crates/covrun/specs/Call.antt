@@ -36,10 +36,10 @@ use Rattle.covrun.specs.Naming.{naming_of, told_name}
 use Rattle.covrun.specs.Work.{WorkData, TaskData, Serves, Collects, Checks, last_of, task_of, input_of, AreTaken, AreRefused}
 use Rattle.covrun.specs.Check.{IsCheck}
 use Rattle.covlist.specs.Shown.{shown_name}
-use Rattle.covrun.specs.Folder.{FolderData, AreTextsOf}
-use Rattle.covrun.specs.OutputFiles.{AddsName, OutputFilesData, Finishes, file_of}
-use Rattle.covrun.specs.Streams.{SinksData, Complains, Withholds, Delivers, DeliversAndComplains}
-use Rattle.covrun.specs.World.{WorldData, ChangesSinksAlone}
+use Rattle.covworld.specs.Folder.{FolderData, AreTextsOf}
+use Rattle.covworld.specs.OutputFiles.{AddsName, OutputFilesData, Finishes, file_of}
+use Rattle.covworld.specs.Streams.{SinksData, Complains, Withholds, Delivers, DeliversAndComplains}
+use Rattle.covworld.specs.World.{WorldData, ChangesSinksAlone}
 
 -- there is one text for each file. A text has at most one byte more than the limit. If the folder knows a file's bytes, the
 -- file's text is those bytes, up to that length

@@ -26,9 +26,9 @@ use Rattle.covsession.specs.Fault.{HasBegun}
 use Rattle.covsession.specs.Program.{fault_status, words_of_fault}
 use Rattle.covsession.specs.Session.{said, refused_text}
 use Rattle.covsession.specs.declared.session.fault.SessionFault.TheVariants as faults
-use Rattle.covrun.specs.Folder.{FolderData, IsTextOf}
+use Rattle.covworld.specs.Folder.{FolderData, IsTextOf}
 use Rattle.covrun.specs.Strict.{is_clean}
-use Rattle.covrun.specs.Streams.{SinksData, Complains}
+use Rattle.covworld.specs.Streams.{SinksData, Complains}
 
 -- the outcome for a file: it can't be read; or its text is refused; or its text is read, and holds this
 pub data OutcomeData : Type 0 where

@@ -12,8 +12,8 @@ use Rattle.covsession.specs.Fault.{HasBegun}
 use Rattle.covsession.specs.declared.session.fault.SessionFault.{SessionFault}
 use Rattle.covsession.specs.declared.session.fault.SessionFault.TheVariants as faults
 use Rattle.covrun.specs.Check.{OutcomeData, Unread, Refused, Held, IsTextOutcome, IsOutcome, AreOutcomes, EndsWithin, outcome_line, outcome_complaint, check_lines, check_complaints, is_unread, is_refused, is_accepted, is_unaccepted}
-use Rattle.covrun.specs.Folder.{FolderData}
-use Rattle.covrun.specs.Streams.{SinksData, Complains}
+use Rattle.covworld.specs.Folder.{FolderData}
+use Rattle.covworld.specs.Streams.{SinksData, Complains}
 use Rattle.covrun.specs.declared.work.CheckedFormat.{CheckedFormat}
 use Rattle.covrun.specs.declared.check_verdict.CheckVerdict.{CheckVerdict}
 use Rattle.covrun.specs.declared.check_verdict.CheckVerdict.TheVariants as verdicts

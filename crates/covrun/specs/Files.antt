@@ -1,4 +1,4 @@
--- Private steps: how a file is read.
+-- Private steps: what is taken of a file.
 use Rattle.std.specs.Prelude.{◌≡◌, ◌≤◌, ℕ, suc, false, List, [], ◌∷◌, length, Option, Some, None, Result, Ok, Err}
 use Rattle.covcheck.specs.SummaryLine.{summary_text}
 use Rattle.covcheck.specs.declared.text_summary.TextSummary.{TextSummary}
@@ -15,7 +15,7 @@ use Rattle.covread.specs.Outcome.{max_bytes}
 use Rattle.covdata.specs.declared.version.LcovVersion.{LcovVersion}
 use Rattle.covcommand.specs.declared.asked.Strictness.{Strictness}
 use Rattle.covcommand.specs.declared.asked.Strictness.TheVariants.{Lenient, Strict}
-use Rattle.covrun.specs.Folder.{FolderData, IsTextOf}
+use Rattle.covworld.specs.Folder.{FolderData, IsTextOf}
 use Rattle.covrun.specs.Large.{IsLargeOutcome, IsTaken}
 use Rattle.covrun.specs.Strict.{IsOutcomeFor, is_clean}
 use Rattle.covrun.specs.Work.{input_of}
@@ -23,18 +23,6 @@ use Rattle.covrun.specs.declared.text_fault.TextFault.{TextFault}
 use Rattle.covrun.specs.declared.text_fault.TextFault.TheVariants.{Faulty, Unclean}
 use Rattle.covrun.specs.declared.work.FileFormat.{FileFormat}
 use Rattle.covrun.specs.declared.work.FileFormat.TheVariants.{Tracefile, LargeTracefile, GcovOutput}
-use Rattle.covstream.specs.Blocks.{HasReadAtMost}
-use Rattle.covstream.specs.declared.fault.BlockFault.{BlockFault}
-use Rattle.covstream.specs.declared.fault.BlockFault.TheVariants.{Unreadable, Memory}
-
--- all bytes that were left were read, or exactly one byte more than a text may have
-abbrev pub HasRead : Option (List ℕ) → Option (List ℕ) → List ℕ → Type 0
-HasRead left left_after text = HasReadAtMost (suc max_bytes) left left_after text
-
--- the file of this name can't be read, or memory ran out
-abbrev pub IsUnread : FolderData → List ℕ → BlockFault → Type 0
-IsUnread folder name Unreadable = folder.MayFail name
-IsUnread folder name Memory = Unit {0}
 
 -- a file may have this outcome: that of the input that is made of some text of the file. `held` has the file's bytes, if they are
 -- known

@@ -11,7 +11,7 @@ use Rattle.covlarge.specs.Large.{IsAll, IsReadAs}
 use Rattle.covlarge.specs.Summary.{SummaryData, summary_data}
 use Rattle.covdata.specs.Row.{SubmissionData}
 use Rattle.covdata.specs.declared.fault.ReadFault.{ReadFault}
-use Rattle.covrun.specs.Folder.{FolderData}
+use Rattle.covworld.specs.Folder.{FolderData}
 use Rattle.covrun.specs.Strict.{is_clean}
 use Rattle.covrun.specs.declared.text_fault.TextFault.{TextFault}
 use Rattle.covrun.specs.declared.text_fault.TextFault.TheVariants.{Faulty, Unclean}

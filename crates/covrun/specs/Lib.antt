@@ -1,9 +1,7 @@
-pub mod Streams
-pub mod Printed
-pub mod Folder
-pub mod OutputFiles
-pub mod Begun
-pub mod World
+pub use Rattle.covworld.specs.Streams
+pub use Rattle.covworld.specs.Folder
+pub use Rattle.covworld.specs.OutputFiles
+pub use Rattle.covworld.specs.World
 pub mod Work
 pub mod Naming
 pub mod Strict

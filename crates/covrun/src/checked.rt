@@ -4,17 +4,16 @@ ghost use Rattle.std.specs.Prelude.{◌≡◌, ◌<◌, ◌≤◌, ◌+◌, ◌^
 ghost use Rattle.std.specs.String.{string_bytes};
 ghost use Rattle.covrun.specs.Check.{IsCheck};
 ghost use Rattle.covrun.specs.Checked.{AreExamined, TellsEach, TellsExamined};
-ghost use Rattle.covrun.specs.Folder.{folder_data};
-ghost use Rattle.covrun.specs.Streams.{CanWrite};
+ghost use Rattle.covworld.specs.Folder.{folder_data};
+ghost use Rattle.covworld.specs.Streams.{CanWrite};
 
 use crate::check_verdict::CheckVerdict;
 use crate::file_report::{FileReport, examine};
-use crate::folder::Folder;
-use crate::sinks::Sinks;
 use crate::work::{CheckOptions, CheckedFormat};
 use covcommand::Strictness;
 use covsession::{SessionFault, line_of, status_of};
 use covstream::Sink;
+use covworld::{Folder, Sinks};
 use std::alloc::{AllocError, Global};
 use std::thread;
 use std::thread::Threads;

@@ -7,12 +7,12 @@ ghost use Rattle.covrun.specs.View.{failure_data};
 ghost use Rattle.covrun.specs.WorkFault.{of_work};
 
 use crate::argument_fault::ArgumentFault;
-use crate::ready_text::ReadyText;
 use crate::work::WorkFault;
 use covdata::Bytes;
 use covreport::Table;
 use covsession::SessionFault;
 use covworkers::CollectFault;
+use covworld::ReadyText;
 use std::alloc::Global;
 
 /// An answer that is ready to be printed.

@@ -1,7 +1,5 @@
 //! Files as inputs of collecting.
 
-use crate::files::file_text;
-use crate::folder::Folder;
 use crate::large_input::{open_large, share, take_last};
 use crate::strict::read_strictly;
 use crate::text_fault::TextFault;
@@ -13,6 +11,7 @@ use covjobs::Input;
 use covlarge::{LargeTracefile, NextPiece, PieceFault};
 use covstream::BlockFault;
 use covworkers::{Given, LateFault, LateInput, Part};
+use covworld::{Folder, file_text};
 use std::alloc::Global;
 
 /// A file that is read when its turn comes. A large tracefile is read in chunks, and `opened` is its rest after the first chunk.
@@ -27,7 +26,7 @@ pub(crate) struct FileInput<'a, F: Folder> {
 
 impl<'a, F: Folder> LateInput<Global> for FileInput<'a, F> {
     ghost use Rattle.covrun.specs.Files.{MayFailAs, MayTake, most_parts};
-    ghost use Rattle.covrun.specs.Folder.{folder_data};
+    ghost use Rattle.covworld.specs.Folder.{folder_data};
 
     ghost may_give = { λ late. MayTake F.File.left (F.holds late.folder.now late.name.now) late.format.now late.strictness late.opened };
 
@@ -51,7 +50,7 @@ impl<'a, F: Folder> FileInput<'a, F> {
     ghost use Rattle.std.specs.Prelude.{◌≡◌};
     ghost use Rattle.covworkers.specs.Late.{IsLateOutcome, IsNextPart};
     ghost use Rattle.covrun.specs.Files.{IsWholeFormat, MayFailAs, MayHaveOutcome, MayTake, most_parts};
-    ghost use Rattle.covrun.specs.Folder.{folder_data};
+    ghost use Rattle.covworld.specs.Folder.{folder_data};
     ghost use Rattle.covrun.specs.declared.work.FileFormat.TheVariants as formats;
 
     /// Reads the file as its only part.

@@ -7,17 +7,14 @@ ghost use Rattle.covrun.specs.Check.{Unread, Refused, Held, is_accepted as is_ac
 ghost use Rattle.covrun.specs.Checked.{AnswersText, IsExamined, IsTextExamined, IsReportOf, Reports, Says};
 ghost use Rattle.covcheck.specs.declared.text_summary.TextSummary.{TextSummary as TextSummaryData};
 ghost use Rattle.covcommand.specs.declared.asked.Strictness.{Strictness as StrictnessData};
-ghost use Rattle.covrun.specs.Folder.{folder_data};
-ghost use Rattle.covrun.specs.Streams.{IsSilent, Withholds};
+ghost use Rattle.covworld.specs.Folder.{folder_data};
+ghost use Rattle.covworld.specs.Streams.{IsSilent, Withholds};
 ghost use Rattle.covrun.specs.declared.work.CheckedFormat.TheVariants.{Text, LargeTracefile};
 ghost use Rattle.covsession.specs.Fault.{HasBegun};
 ghost use Rattle.covsession.specs.declared.session.fault.SessionFault.TheVariants as session_faults;
 
 use crate::check_verdict::CheckVerdict;
-use crate::files::file_text;
-use crate::folder::Folder;
 use crate::messages::{CANT_READ, NO_ITEMS};
-use crate::sinks::Sinks;
 use crate::strict::is_clean;
 use crate::work::CheckedFormat;
 use covcheck::{TextSummary, check_gcov, check_lcov2, check_trace, summary_line};
@@ -27,6 +24,7 @@ use covlarge::{PieceFault, check_large};
 use covlist::put_shown_name;
 use covsession::{SessionFault, refused_line};
 use covstream::{BlockFault, Sink};
+use covworld::{Folder, Sinks, file_text};
 use std::alloc::Global;
 
 /// The report about a checked file, which is written without allocating.

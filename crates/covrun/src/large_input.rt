@@ -8,9 +8,8 @@ ghost use Rattle.covlarge.specs.Summary.{SummaryData};
 ghost use Rattle.covdata.specs.Row.{SubmissionData};
 ghost use Rattle.covdata.specs.declared.fault.ReadFault.{ReadFault};
 ghost use Rattle.covrun.specs.Files.{IsOpenedFor, IsToldFor, MayFailLarge, TakesLast};
-ghost use Rattle.covrun.specs.Folder.{folder_data};
+ghost use Rattle.covworld.specs.Folder.{folder_data};
 
-use crate::folder::Folder;
 use crate::strict::refuse_unless_clean;
 use crate::text_fault::TextFault;
 use covbook::PackedRef;
@@ -19,6 +18,7 @@ use covlarge::{Held, LargeTracefile};
 use covpacked::PackedSubmission;
 use covstream::Source;
 use covworkers::{Given, LateFault};
+use covworld::Folder;
 use std::alloc::Global;
 
 /// Returns `opened`, the unread rest of the tracefile. Opens the file if `opened` is `None`.

@@ -36,40 +36,23 @@
 #![tactic(auto)]
 
 mod argument_fault;
-mod begun;
-mod block;
-mod block_printer;
 mod check_verdict;
 mod checked;
 mod collecting;
 mod ending;
 mod file_input;
 mod file_report;
-mod files;
-mod folder;
 mod large_input;
 mod messages;
-mod named_file;
 mod naming;
 mod output;
-mod output_folder;
-mod placed_names;
 mod program;
 mod question;
-mod ready_text;
-mod sinks;
 mod strict;
 mod text_fault;
-mod unfinished_file;
 mod work;
-mod world;
-mod written_file;
 
 pub use argument_fault::ArgumentFault;
 pub use covreport::Noted;
-pub use folder::{Folder, FromFiles, Opened};
-pub use output_folder::{IntoFiles, OutputFault, OutputFolder};
+pub use covworld::{Folder, OutputFolder, Sinks, World};
 pub use program::{refuse, run};
-pub use sinks::Sinks;
-pub use unfinished_file::UnfinishedFile;
-pub use world::World;

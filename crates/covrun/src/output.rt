@@ -6,23 +6,20 @@ ghost use Rattle.covlist.specs.Shown.{shown_name};
 ghost use Rattle.covsession.specs.Session.{said};
 ghost use Rattle.covrun.specs.Call.{of_line, IsEndingPrinted, IsEndingReported};
 ghost use Rattle.covrun.specs.Ending.{EndingData, Prints, Stopped, shortfall_status};
-ghost use Rattle.covrun.specs.Streams.{CanWrite, Complains, Withholds};
+ghost use Rattle.covworld.specs.Streams.{CanWrite, Complains, Withholds};
 ghost use Rattle.covrun.specs.View.{failure_data, ready_data};
-ghost use Rattle.covrun.specs.World.{CanCall};
+ghost use Rattle.covworld.specs.World.{CanCall};
 ghost use Rattle.covsession.specs.declared.session.fault.SessionFault.TheVariants as session_faults;
 
 use crate::ending::{Failure, ReadyAnswer};
 use crate::messages::{CANT_READ, CANT_WRITE, line_of_argument};
-use crate::output_folder::{OutputFault, OutputFolder};
-use crate::sinks::Sinks;
-use crate::world::World;
-use crate::written_file::write_file;
 use covcommand::CommandFault;
 use covdata::{Bytes, Memory};
 use covlist::put_shown_name;
 use covreport::Table;
 use covsession::{SessionFault, line_of, status_of};
 use covstream::{Sink, Source};
+use covworld::{OutputFault, OutputFolder, Sinks, World, write_file};
 use std::alloc::Global;
 
 /// Reports an answer and returns the exit status. The text goes to the output, or into the file that `file` names.

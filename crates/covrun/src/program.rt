@@ -3,23 +3,20 @@
 ghost use Rattle.std.specs.Prelude.{◌≡◌, map, option_map};
 ghost use Rattle.std.specs.String.{string_bytes};
 ghost use Rattle.covrun.specs.Call.{of_line, IsCall, IsCommandDone, IsEndingPrinted, IsServed};
-ghost use Rattle.covrun.specs.Folder.{folder_data};
-ghost use Rattle.covrun.specs.OutputFiles.{file_of, is_output as is_output_name};
-ghost use Rattle.covrun.specs.Streams.{CanWrite};
-ghost use Rattle.covrun.specs.World.{CanCall};
+ghost use Rattle.covworld.specs.Folder.{folder_data};
+ghost use Rattle.covworld.specs.OutputFiles.{file_of, is_output as is_output_name};
+ghost use Rattle.covworld.specs.Streams.{CanWrite};
+ghost use Rattle.covworld.specs.World.{CanCall};
 
 use crate::checked::check_files;
 use crate::collecting::do_work;
 use crate::ending::failure_of_work;
-use crate::folder::Folder;
 use crate::output::{report_failure, report_line};
-use crate::output_folder::OutputFolder;
-use crate::sinks::Sinks;
 use crate::work::{Task, task_for};
-use crate::world::World;
 use covcommand::{Asked, CommandFault, command};
 use covreport::Table;
 use covstream::{Sink, Source};
+use covworld::{Folder, OutputFolder, Sinks, World};
 use std::alloc::{AllocGlobal, Global};
 use std::sync::Wait;
 use std::thread::Threads;

@@ -1,12 +1,13 @@
 //! Runs the program with streams and folders that no real program has, and once for each subcommand with ample memory. All other
 //! runs are text files in e2e/calls, which scripts/e2e plays with the built program. Expected values were worked out by hand.
 
-ghost use Rattle.covrun.specs.Streams.{CanWrite};
-ghost use Rattle.covrun.specs.World.{CanCall};
+ghost use Rattle.covworld.specs.Streams.{CanWrite};
+ghost use Rattle.covworld.specs.World.{CanCall};
 
-use covrun::{Folder, FromFiles, IntoFiles, OutputFolder, Sinks, World};
+use covrun::{Folder, OutputFolder, Sinks, World};
 use covstore::Store;
 use covstream::{FromRead, FromWrite, Sink, Source};
+use covworld::{FromFiles, IntoFiles};
 use std::alloc::Global;
 use std::process::Abort;
 use std::random::RandomSource;

@@ -3,8 +3,9 @@
 ghost use Rattle.std.specs.Prelude.{◌<◌, ◌^◌, None};
 
 use super::{called, check_text, kept_sinks, words_of};
-use covrun::{IntoFiles, Sinks, World};
+use covrun::{Sinks, World};
 use covstream::{Failed, FromRead, FromWrite, Sink, Source};
+use covworld::IntoFiles;
 use std::process::Abort;
 use std::random::RandomSource;
 use std::rt::Files;

@@ -5,8 +5,9 @@ ghost use Rattle.std.specs.String.{string_bytes};
 
 use super::folders::OneFile;
 use super::{Told, check_text, kept_sinks, run, words_of};
-use covrun::{OutputFault, OutputFolder, World};
+use covrun::{OutputFolder, World};
 use covstream::{Failed, FromRead, FromWrite, Sink};
+use covworld::OutputFault;
 use std::alloc::Global;
 use std::process::Abort;
 use std::sync::Wait;

@@ -1,7 +1,7 @@
 use Rattle.std.proofs.Common.{rules, ◌≡◌, ◌++◌, ◌<◌, ◌^◌, [], refl, List, length, map, ap, length-append, arith}
 use Rattle.std.proofs.lemmas.Result.{err_from_is_err_and}
 use Rattle.std.specs.String.{string_bytes}
-use Rattle.covrun.specs.Folder.{folder_data}
+use Rattle.covworld.specs.Folder.{folder_data}
 use Rattle.covrun.proofs.Checks.{cut_round, few_left, told_few, told_last_round, told_round_as, told_start, told_to_end}
 use Rattle.covrun.proofs.checked.check_each.Goals as goal
 

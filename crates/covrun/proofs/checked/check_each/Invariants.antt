@@ -1,7 +1,7 @@
 use Rattle.std.specs.Prelude.{◌≡◌, ◌++◌, List, Ok, length, map, ℕ}
 use Rattle.std.specs.String.{string_bytes}
 use Rattle.covrun.specs.Checked.{TellsEach}
-use Rattle.covrun.specs.Folder.{folder_data}
+use Rattle.covworld.specs.Folder.{folder_data}
 use Rattle.covrun.proofs.checked.check_each.Given as goal
 
 -- the files before those that are left are reported, and `worst` is the worst of their verdicts

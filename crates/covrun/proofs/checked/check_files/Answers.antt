@@ -1,5 +1,5 @@
 use Rattle.std.proofs.Common.{[]}
-use Rattle.covrun.specs.Folder.{folder_data}
+use Rattle.covworld.specs.Folder.{folder_data}
 use Rattle.covrun.proofs.Checks.{check_ended, says_last}
 use Rattle.covrun.proofs.checked.check_files.Goals as goal
 

@@ -2,7 +2,7 @@ use Rattle.std.proofs.Common.{◌<◌, length, map, arith}
 use Rattle.std.proofs.lemmas.List.{length-map}
 use Rattle.std.proofs.lemmas.Result.{err_from_is_err_and}
 use Rattle.std.specs.String.{string_bytes}
-use Rattle.covrun.specs.Folder.{folder_data}
+use Rattle.covworld.specs.Folder.{folder_data}
 use Rattle.covrun.proofs.Checks.{examined_at, told_few, told_few_of, told_last, told_more, told_nothing, told_one, told_start, told_whole}
 use Rattle.covrun.proofs.checked.check_round.Goals as goal
 

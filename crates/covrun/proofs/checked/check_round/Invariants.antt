@@ -1,7 +1,7 @@
 use Rattle.std.specs.Prelude.{Ok, map, take}
 use Rattle.std.specs.String.{string_bytes}
 use Rattle.covrun.specs.Checked.{TellsEach}
-use Rattle.covrun.specs.Folder.{folder_data}
+use Rattle.covworld.specs.Folder.{folder_data}
 use Rattle.covrun.proofs.checked.check_round.Given as goal
 
 -- the first files of the round are reported, and `worst` is the worst of their verdicts

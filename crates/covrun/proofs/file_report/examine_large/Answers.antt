@@ -4,7 +4,7 @@ use Rattle.covdata.specs.declared.fault.ReadFault.{ReadFault}
 use Rattle.covrun.specs.Checked.{IsReportOf}
 use Rattle.covlist.specs.Shown.{shown_name}
 use Rattle.covrun.specs.Check.{Held, Refused, Unread}
-use Rattle.covrun.specs.Folder.{folder_data}
+use Rattle.covworld.specs.Folder.{folder_data}
 use Rattle.covrun.specs.declared.work.CheckedFormat.TheVariants.{LargeTracefile}
 use Rattle.covrun.proofs.Checks.{examined_outcome}
 use Rattle.covrun.proofs.Large.{large_held, large_refused, source_failed, source_fails}

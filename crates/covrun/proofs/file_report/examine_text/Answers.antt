@@ -1,7 +1,7 @@
 use Rattle.std.proofs.Common.{rules, ◌≡◌, ◌∙◌, ℕ, suc, ◌≤◌, List, length, ap, subst, sym}
 use Rattle.covlist.specs.Shown.{shown_name}
 use Rattle.covread.specs.Outcome.{max_bytes}
-use Rattle.covrun.specs.Folder.{IsTextOf, folder_data}
+use Rattle.covworld.specs.Folder.{IsTextOf, folder_data}
 use Rattle.covstream.specs.declared.fault.BlockFault.TheVariants as files
 use Rattle.covrun.specs.declared.work.CheckedFormat.TheVariants.{Text}
 use Rattle.covrun.proofs.Checks.{examined_text, examined_unread, may_fail_of}

@@ -1,10 +1,10 @@
 use Rattle.std.proofs.Common.{inl, inr, Some, refl, sym, ap, subst, ◌∙◌}
 use Rattle.covsession.specs.declared.session.fault.SessionFault.TheVariants as session_faults
 use Rattle.covrun.specs.Ending.{Stopped, with_shortfalls}
-use Rattle.covrun.specs.OutputFiles.{CountsFault, output_files}
-use Rattle.covrun.specs.World.{WorldData}
+use Rattle.covworld.specs.OutputFiles.{CountsFault, output_files}
+use Rattle.covworld.specs.World.{WorldData}
 use Rattle.covrun.specs.declared.ending.Failure.TheVariants as failures
-use Rattle.covrun.specs.declared.output_folder.OutputFault.{OutputFault}
+use Rattle.covworld.specs.declared.output_folder.OutputFault.{OutputFault}
 use Rattle.covrun.proofs.Endings.{answer_unwritten, answer_written, failure_reported}
 use Rattle.covrun.proofs.output.write_answer.Goals as goal
 

@@ -1,7 +1,7 @@
 use Rattle.std.proofs.Common.{inl, inr, None, option_map, refl, sym, ap, ◌∙◌}
 use Rattle.std.specs.String.{string_bytes}
-use Rattle.covrun.specs.Folder.{folder_data}
-use Rattle.covrun.specs.OutputFiles.{file_of}
+use Rattle.covworld.specs.Folder.{folder_data}
+use Rattle.covworld.specs.OutputFiles.{file_of}
 use Rattle.covrun.specs.View.{task_data, work_data, failure_data}
 use Rattle.covrun.proofs.Endings.{asks_text, stops_early, told_check, told_session, told_work}
 use Rattle.covrun.proofs.program.run_command.Goals as goal

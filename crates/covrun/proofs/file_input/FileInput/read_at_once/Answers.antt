@@ -1,6 +1,6 @@
 use Rattle.std.proofs.lemmas.Result.{err_from_is_err_and}
 use Rattle.covrun.specs.Files.{MayFailAs, MayTake, most_parts}
-use Rattle.covrun.specs.Folder.{folder_data}
+use Rattle.covworld.specs.Folder.{folder_data}
 use Rattle.covrun.proofs.Large.{part_faults, whole_ends}
 use Rattle.covrun.proofs.file_input.FileInput.read_at_once.Goals as goal
 

@@ -1,4 +1,4 @@
-use Rattle.covrun.specs.Folder.{folder_data}
+use Rattle.covworld.specs.Folder.{folder_data}
 use Rattle.covrun.proofs.Large.{faulty_part, last_part, more_part}
 use Rattle.covrun.proofs.file_input.FileInput.read_piece.Goals as goal
 

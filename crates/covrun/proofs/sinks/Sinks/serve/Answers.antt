@@ -1,4 +1,0 @@
-use Rattle.covrun.proofs.sinks.Sinks.serve.Goals as goal
-
-pub returns : goal.returns
-returns g c = rw (← c.self.view_is) c.run_session.ensures

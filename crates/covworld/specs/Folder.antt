@@ -1,0 +1,45 @@
+-- The files that a call reads, by their names.
+use Rattle.std.specs.Io.KnownBytes.{Consumes, Keeps}
+use Rattle.std.specs.List.{AllByRecursion, zip}
+use Rattle.std.specs.Prelude.{◌≡◌, ◌⊎◌, ◌<◌, ℕ, suc, List, take, Option, None, Some}
+use Rattle.covread.specs.Outcome.{max_bytes}
+use Rattle.covstream.specs.declared.stream.Source.{Ghosts as SourceOf}
+use Rattle.covworld.specs.declared.folder.Folder.{Ghosts as FolderOf}
+
+-- the folder that a call reads files from. `holds`: the bytes of the file with this name, if the folder knows them. `MayFail`:
+-- this file may fail to be read
+pub record FolderData : Type 1 where
+  pub holds : List ℕ → Option (List ℕ)
+  pub MayFail : List ℕ → Type 0
+
+-- an open file couldn't be read: reads gave the first of its bytes, and a read failed. `held`: the file's bytes, if they are
+-- known. `MayOpen`: the folder may give this open file
+pub record HasFailed {File : Type 0} (held : Option (List ℕ)) (MayOpen : File → Type 0) (left : File → Option (List ℕ)) (failed_reads : File → ℕ) : Type 0 where
+  pub opened : File
+  pub may_open : MayOpen opened
+  pub keeps : Keeps held (left opened)
+  pub after : File
+  pub bytes : List ℕ
+  pub given : Consumes (left opened) (left after) bytes
+  pub failed : failed_reads opened < failed_reads after
+
+-- the folder as data, from what its type and the type of its open files state. A file may fail to be read if the folder may refuse to
+-- open it, or if a read of it failed once it was open
+abbrev pub folder_data : {F File : Type 0} → FolderOf F File → SourceOf File → F → FolderData
+folder_data of file folder = record {
+  holds = of.holds folder;
+  MayFail = λ name. of.may_refuse folder name ⊎ HasFailed (of.holds folder name) (of.may_open folder name) file.left file.failed_reads;
+}
+
+-- if the bytes are known, the text is all of them, or the first `most` of them
+abbrev pub IsTextAtMost : ℕ → Option (List ℕ) → List ℕ → Type 0
+IsTextAtMost most None text = Unit {0}
+IsTextAtMost most (Some bytes) text = text ≡ take most bytes
+
+-- the text that is read of a file with these bytes: all of them, up to one byte more than a text may have
+abbrev pub IsTextOf : Option (List ℕ) → List ℕ → Type 0
+IsTextOf held text = IsTextAtMost (suc max_bytes) held text
+
+-- each text is that of the file at the same index
+abbrev pub AreTextsOf : FolderData → (files texts : List (List ℕ)) → Type 0
+AreTextsOf folder files texts = AllByRecursion (λ (f : List ℕ × List ℕ). IsTextOf (folder.holds f.0) f.1) (zip files texts)

@@ -1,0 +1,51 @@
+-- The files that a call writes.
+use Rattle.std.specs.Prelude.{◌≡◌, ℕ, suc, List, [], ◌∷◌, ◌++◌, Bool, ◌||◌, if◌then◌else◌, Option, None, Some, codes}
+use Rattle.std.specs.Str.{bytes_eq}
+use Rattle.covworld.specs.declared.output_folder.OutputFault.{OutputFault}
+use Rattle.covworld.specs.declared.output_folder.OutputFault.TheVariants.{Failed, Memory}
+
+-- the files that were finished so far, in order, each with its name and its text, if they are known; their names, which are known
+-- even if their texts aren't; the name of the file that is begun, and neither finished nor abandoned; and how many files couldn't be
+-- written
+pub record OutputFilesData : Type 0 where
+  pub finished : Option (List (List ℕ × List ℕ))
+  pub names : List (List ℕ)
+  pub begun : Option (List ℕ)
+  pub failed : ℕ
+
+abbrev pub output_files : Option (List (List ℕ × List ℕ)) → List (List ℕ) → Option (List ℕ) → ℕ → OutputFilesData
+output_files finished names begun failed = record { finished = finished; names = names; begun = begun; failed = failed }
+
+-- one more file was finished: it has this name and this text
+abbrev pub Finishes : (name text : List ℕ) → (finished finished_after : Option (List (List ℕ × List ℕ))) → Type 0
+Finishes name text None after = Unit {0}
+Finishes name text (Some files) None = ⊥
+Finishes name text (Some files) (Some after) = after ≡ files ++ (name, text) ∷ []
+
+-- one more file was finished, which has this name
+abbrev pub AddsName : (name : List ℕ) → (names names_after : List (List ℕ)) → Type 0
+AddsName name names after = after ≡ names ++ name ∷ []
+
+-- a file can't be begun only for this reason, unless memory ran out
+abbrev pub RefusedOnlyIf : (MayRefuse : Type 0) → OutputFault → Type 0
+RefusedOnlyIf MayRefuse Failed = MayRefuse
+RefusedOnlyIf MayRefuse Memory = Unit {0}
+
+-- a file that was just begun has no bytes. Nothing is said if the finished files aren't known
+abbrev pub IsEmptyIfKnown : (finished : Option (List (List ℕ × List ℕ))) → (written : Option (List ℕ)) → Type 0
+IsEmptyIfKnown None written = Unit {0}
+IsEmptyIfKnown (Some files) written = written ≡ Some []
+
+-- a file that can't be begun or finished is counted, unless memory ran out
+abbrev pub CountsFault : OutputFault → (failed failed_after : ℕ) → Type 0
+CountsFault Failed failed after = after ≡ suc failed
+CountsFault Memory failed after = after ≡ failed
+
+-- the name of standard output, which is no file
+abbrev pub is_output : List ℕ → Bool
+is_output name = bytes_eq name (codes "/dev/stdout") || bytes_eq name (codes "/dev/fd/1") || bytes_eq name (codes "/proc/self/fd/1")
+
+-- the name of the file that a text goes into: the one that the call names, unless that is standard output
+abbrev pub file_of : (named : Option (List ℕ)) → Option (List ℕ)
+file_of None = None
+file_of (Some name) = if is_output name then None else Some name

@@ -1,0 +1,262 @@
+//! A file of std that is written under a temporary name, beside the file that it will replace.
+
+ghost use Rattle.std.specs.Prelude.{◌≡◌, IfOk};
+ghost use Rattle.std.specs.Option.{ForSome};
+ghost use Rattle.std.specs.String.{string_bytes};
+ghost use Rattle.covworld.specs.Begun.{begun_name};
+
+use crate::begun::Begun;
+use crate::named_file::{Named, PlacedFile, Target, append_named, open_named};
+use crate::output_folder::OutputFault;
+use covstream::{Failed, FromWrite, Sink};
+use std::alloc::{AllocError, AllocGlobal};
+use std::fs::{Metadata, OpenFile, OpenOptions, Permissions};
+use std::io;
+use std::io::ErrorKind;
+use std::os::unix::fs::{MetadataExt, OpenOptionsExt, PermissionsExt};
+use std::random::RandomSource;
+use std::rt::Files;
+
+/// A file of std that isn't finished.
+#[derive(Drop)]
+pub struct UnfinishedFile<F> {
+    file: Named<FromWrite<F>>,
+    // The temporary name, by which std opened the file. `None` for a device or a pipe: bytes go straight into it.
+    from: Option<String>,
+    ghost opened: { ForSome from (λ f. file.name.bytes ≡ string_bytes f) },
+}
+
+impl<F: io::Write> Sink for UnfinishedFile<F> {
+    ghost written = { λ f. ⟦<Named<FromWrite<F>> as Sink>⟧.written f.file };
+
+    ghost held = { λ f. ⟦<Named<FromWrite<F>> as Sink>⟧.held f.file };
+
+    ghost failed_writes = { λ f. ⟦<Named<FromWrite<F>> as Sink>⟧.failed_writes f.file };
+
+    fn write(&mut self, bytes: &[u8]) -> Result<usize, Failed> {
+        self.file.write(bytes)
+    }
+
+    fn flush(&mut self) -> Result<(), Failed> {
+        self.file.flush()
+    }
+}
+
+/// Begins a file that will be called `name`. An older file of this name gives the new one its rights. A symbolic link stays, and
+/// the file that it leads to is replaced. A device, a pipe or an open stream of the program is written to directly.
+pub(crate) fn begin_file<R: Files + RandomSource + AllocGlobal>(
+    rt: &R,
+    name: &str,
+) -> Result<(UnfinishedFile<R::File>, Begun), OutputFault>
+    ensures fresh { IfOk result (λ r. ⟦<UnfinishedFile<R::File> as Sink>⟧.failed_writes r.0 ≡ 0) }
+    ensures named { IfOk result (λ r. begun_name r.1 ≡ name.now) }
+{
+    if name.is_empty() {
+        return Err(OutputFault::Failed);
+    }
+    if is_stream(name) {
+        return begin_in_place(rt, name);
+    }
+    match rt.metadata(name) {
+        Ok(old) if old.is_file() => begin_instead(rt, name, &old),
+        Ok(old) if old.is_dir() => Err(OutputFault::Failed),
+        Ok(_) => begin_in_place(rt, name),
+        Err(error) if error.kind() == ErrorKind::NotFound => begin_new(rt, name),
+        Err(_) => Err(OutputFault::Failed),
+    }
+}
+
+/// Whether `name` is that of an open stream. Not even a regular file behind the name of a stream is replaced.
+fn is_stream(name: &str) -> bool {
+    name == "/dev/stderr" || name.starts_with("/dev/fd/") || name.starts_with("/proc/self/fd/")
+}
+
+/// Creates the temporary file that will replace `name`, with mode 0600, and then copies mode, owner and group of the old file.
+fn begin_instead<R: Files + RandomSource + AllocGlobal>(
+    rt: &R,
+    name: &str,
+    old: &Metadata,
+) -> Result<(UnfinishedFile<R::File>, Begun), OutputFault>
+    ensures fresh { IfOk result (λ r. ⟦<UnfinishedFile<R::File> as Sink>⟧.failed_writes r.0 ≡ 0) }
+    ensures named { IfOk result (λ r. begun_name r.1 ≡ name.now) }
+{
+    let target = target_of(rt, name)?;
+    let from = name_beside(rt, target.path())?;
+    let file = create(rt, from.as_str(), 0o600)?;
+    match keep_rights(rt, from.as_str(), file.get(), old) {
+        Ok(()) => Ok((beside(file, from), Begun::Beside(target))),
+        Err(error) => {
+            let _ = rt.remove_file(from.as_str());
+            Err(OutputFault::from(error))
+        }
+    }
+}
+
+/// The path that `name` leads to if it is a symbolic link, or else `name`.
+fn target_of<R: Files + AllocGlobal>(rt: &R, name: &str) -> Result<Target, OutputFault>
+    ensures { IfOk result (λ target. string_bytes target.name ≡ name.now) }
+{
+    if rt.symlink_metadata(name)?.is_symlink() {
+        Ok(Target::behind(rt, name)?)
+    } else {
+        Ok(Target::of(rt.alloc(), name)?)
+    }
+}
+
+/// Gives `file`, the new file called `from`, the mode of the `old` one, and its owner and group as far as the user may set them.
+/// The new file gives its group no rights if it can't have the old group.
+fn keep_rights<R: Files>(rt: &R, from: &str, file: &R::File, old: &Metadata) -> io::Result<()> {
+    let made = file.metadata()?;
+    let mut mode = old.permissions().mode() & 0o777;
+    if made.gid() != old.gid() && rt.lchown(from, None, Some(old.gid())).is_err() {
+        mode &= 0o707;
+    }
+    if made.uid() != old.uid() {
+        // Only root can do this. For anyone else, the file belongs to the user.
+        let _ = rt.lchown(from, Some(old.uid()), None);
+    }
+    file.set_permissions(Permissions::from_mode(mode))
+}
+
+/// Begins a file with a `name` that no file has. Fails for a symbolic link that leads nowhere.
+fn begin_new<R: Files + RandomSource + AllocGlobal>(
+    rt: &R,
+    name: &str,
+) -> Result<(UnfinishedFile<R::File>, Begun), OutputFault>
+    ensures fresh { IfOk result (λ r. ⟦<UnfinishedFile<R::File> as Sink>⟧.failed_writes r.0 ≡ 0) }
+    ensures named { IfOk result (λ r. begun_name r.1 ≡ name.now) }
+{
+    if rt.symlink_metadata(name).is_ok() {
+        return Err(OutputFault::Failed);
+    }
+    let target = Target::of(rt.alloc(), name)?;
+    let from = name_beside(rt, name)?;
+    let file = create(rt, from.as_str(), 0o666)?;
+    Ok((beside(file, from), Begun::Beside(target)))
+}
+
+/// Creates a file called `name` with this `mode`, less the umask. Fails if there is such a file.
+fn create<R: Files>(rt: &R, name: &str, mode: u32) -> io::Result<Named<R::File>>
+    ensures { IfOk result (λ file. file.name.bytes ≡ name.now) }
+{
+    let mut how = OpenOptions::new();
+    how.write(true).create_new(true).mode(mode);
+    open_named(rt, &how, name)
+}
+
+/// A new file without any bytes yet, whose temporary name is `from`.
+fn beside<F: io::Write>(file: Named<F>, from: String) -> UnfinishedFile<F>
+    requires { file.name.bytes ≡ string_bytes from }
+    ensures { ⟦<UnfinishedFile<F> as Sink>⟧.failed_writes result ≡ 0 }
+{
+    UnfinishedFile {
+        file: file.into_sink(),
+        from: Some(from),
+    }
+}
+
+/// An unused name in the same directory: `name`, followed by random digits and `.part`.
+fn name_beside<R: RandomSource + AllocGlobal>(rt: &R, name: &str) -> Result<String, OutputFault> {
+    let mut random = [0u8; 8];
+    rt.fill_bytes(&mut random)?;
+    let digits = hex::encode(rt.alloc(), random)?;
+    let mut beside = String::from_str(rt.alloc(), name)?;
+    beside.push_str(".")?;
+    beside.push_str(digits.as_str())?;
+    beside.push_str(".part")?;
+    Ok(beside)
+}
+
+/// Opens a device, a pipe or a stream for appending, so what was written to it before stays.
+fn begin_in_place<R: Files + AllocGlobal>(
+    rt: &R,
+    name: &str,
+) -> Result<(UnfinishedFile<R::File>, Begun), OutputFault>
+    ensures fresh { IfOk result (λ r. ⟦<UnfinishedFile<R::File> as Sink>⟧.failed_writes r.0 ≡ 0) }
+    ensures named { IfOk result (λ r. begun_name r.1 ≡ name.now) }
+{
+    let called = String::from_str(rt.alloc(), name)?;
+    let (file, placed) = append_named(rt, called)?;
+    Ok((in_place(file), Begun::InPlace(placed)))
+}
+
+/// An open device, pipe or stream, to which bytes go straight.
+fn in_place<F: io::Write>(file: Named<F>) -> UnfinishedFile<F>
+    ensures { ⟦<UnfinishedFile<F> as Sink>⟧.failed_writes result ≡ 0 }
+{
+    UnfinishedFile {
+        file: file.into_sink(),
+        from: None,
+    }
+}
+
+/// Gives `file` the name that it was begun for, after all its bytes are on the disk. Removes the file if it can't get the name.
+pub(crate) fn finish_file<R: Files>(
+    rt: &R,
+    file: UnfinishedFile<R::File>,
+    begun: Begun,
+) -> Result<PlacedFile, OutputFault>
+    ensures { IfOk result (λ placed. string_bytes placed.name ≡ begun_name begun) }
+{
+    let UnfinishedFile { file, from } = file;
+    let target = match begun {
+        Begun::InPlace(placed) => return Ok(placed),
+        Begun::Beside(target) => target,
+    };
+    let Some(from) = from else {
+        return Err(OutputFault::Failed);
+    };
+    match place(rt, file, from.as_str(), target) {
+        Ok(placed) => Ok(placed),
+        Err(error) => {
+            let _ = rt.remove_file(from.as_str());
+            Err(OutputFault::from(error))
+        }
+    }
+}
+
+/// Waits until all bytes of `file` are on the disk, and then gives the file, whose name is `from`, the path of `target`.
+fn place<R: Files>(
+    rt: &R,
+    file: Named<FromWrite<R::File>>,
+    from: &str,
+    target: Target,
+) -> io::Result<PlacedFile>
+    requires { file.name.bytes ≡ from.now }
+    ensures { IfOk result (λ placed. placed.name ≡ target.name) }
+{
+    file.store()?.rename(rt, from, target)
+}
+
+/// Removes `file`, which isn't finished.
+pub(crate) fn abandon_file<R: Files>(rt: &R, file: UnfinishedFile<R::File>) {
+    let UnfinishedFile { file, from } = file;
+    drop(file);
+    if let Some(from) = from {
+        // The run already ends with the error of the write.
+        let _ = rt.remove_file(from.as_str());
+    }
+}
+
+impl From<AllocError> for OutputFault {
+    ghost use Rattle.std.specs.Prelude.{◌≡◌};
+    ghost use Rattle.covworld.specs.declared.output_folder.OutputFault.TheVariants as faults;
+
+    ghost from_gives = { λ _ f. f ≡ faults.Memory };
+
+    fn from(_refused: AllocError) -> OutputFault {
+        OutputFault::Memory
+    }
+}
+
+impl From<io::Error> for OutputFault {
+    ghost from_gives = { λ _ _. Unit {0} };
+
+    fn from(error: io::Error) -> OutputFault {
+        if error.kind() == ErrorKind::OutOfMemory {
+            OutputFault::Memory
+        } else {
+            OutputFault::Failed
+        }
+    }
+}
