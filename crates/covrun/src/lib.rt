@@ -5,12 +5,10 @@
 //! Any other subcommand is `Work`: covworkers collects the files in a book, and a job reads a file when the file's turn comes
 //! (`FileInput`). So at most one file's content per job is in memory. The result of collecting is a `ReadyAnswer` or a `Failure`,
 //! which is reported by an exit status and on the two output streams. An answer goes from the book to the output in blocks while it
-//! is made (`BlockPrinter`), or into the file that `--output` names (`write_file`). All memory for printing is reserved before the
-//! first byte is written (`ReadyText`).
+//! is made, or into the file that `--output` names. All memory for printing is reserved before the first byte is written.
 //!
-//! A run reads files from a `Folder`, which it shares with its threads and never changes. What a run changes is its `World`: the
-//! files that it writes (`OutputFolder`) and the standard streams. `FromFiles` and `IntoFiles` are the file system of std as these
-//! two folders.
+//! A run reads files from a `Folder` and changes a `World`. The crate covworld has both, and `FromFiles` and `IntoFiles`, the file
+//! system of std.
 //!
 //! No function names a store: all are generic over covreport's `Table`. A sketch: the program's main function.
 //!

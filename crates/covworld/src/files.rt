@@ -33,8 +33,8 @@ pub(crate) fn read_text<S: Source>(
     Ok(text)
 }
 
-/// Reads the file called `name`, up to one byte more than the size limit. Fails with `Unreadable` if the file can't be opened, or if
-/// a read of it failed.
+/// Reads the file called `name`, up to one byte more than the size limit of 64 MiB. The extra byte shows that the file is too long.
+/// Fails with `Unreadable` if the file can't be opened, or if a read of it failed.
 pub fn file_text<F: Folder>(folder: &F, alloc: Global, name: &str) -> Result<Bytes, BlockFault>
     ensures text { IfOk result (IsTextOf (F.holds folder.now name.now)) }
     ensures few { IfOk result (λ text. length text ≤ suc max_bytes) }

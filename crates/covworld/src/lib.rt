@@ -1,4 +1,34 @@
 //! What a run of the program reads and changes: its files and its standard streams.
+//!
+//! A run reads files from a `Folder`, which it shares with its threads and never changes. What a run changes is its `World`: the
+//! files that it writes (`OutputFolder`), the input, and the two streams that it writes to (`Sinks`). `FromFiles` and `IntoFiles`
+//! are the file system of std as these two folders.
+//!
+//! `file_text` reads a whole file. `ReadyText::of` reserves all memory for printing a text. The text then goes in blocks, while it
+//! is made from a store, to the output (`Sinks::print`) or into a file (`write_file`). The file gets its name after its whole text
+//! is written.
+//!
+//! A sketch, which no test runs: a function that prints a file, or reports that the file can't be read.
+//!
+//! ```text
+//! fn print_file<F: Folder, O: Sink, E: Sink>(
+//!     folder: &F,
+//!     alloc: Global,
+//!     name: &str,
+//!     sinks: &mut Sinks<O, E>,
+//! ) -> Result<(), SessionFault>
+//!     requires { CanWrite sinks.old }
+//! {
+//!     match file_text(folder, alloc, name) {
+//!         Ok(text) => sinks.put_out(text.get()),
+//!         Err(BlockFault::Unreadable) => {
+//!             sinks.say(name.as_bytes(), b": can't read\n");
+//!             Ok(())
+//!         }
+//!         Err(BlockFault::Memory) => Err(SessionFault::Memory),
+//!     }
+//! }
+//! ```
 #![tactic(auto)]
 
 mod begun;

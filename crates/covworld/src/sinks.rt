@@ -52,7 +52,8 @@ impl<O: Sink, E: Sink> Sinks<O, E> {
         run_session::<I, O, E, Global, T>(alloc, input, &mut self.output, &mut self.faults)
     }
 
-    /// Writes the whole text to the output, and flushes the output.
+    /// Writes the whole text to the output, and flushes the output. After an error, which is `Write`, the output has a prefix of
+    /// the text.
     pub fn put_out(&mut self, text: &[u8]) -> Result<(), SessionFault>
         requires { self.old.failed_output < 2 ^ 62 }
         ensures written { OnOk result (PutsOut text.now self.old self.new) }
@@ -65,7 +66,8 @@ impl<O: Sink, E: Sink> Sinks<O, E> {
         Ok(())
     }
 
-    /// Prints the text to the output, and flushes the output. Never allocates.
+    /// Prints the text to the output, and flushes the output. Never allocates. After an error, which is `Write`, the output has a
+    /// prefix of the text.
     pub fn print<T: Table<Global>>(&mut self, text: ReadyText<'_, T>) -> Result<(), SessionFault>
         requires { self.old.failed_output < 2 ^ 62 }
         ensures written { OnOk result (PutsOut text.entry self.old self.new) }
