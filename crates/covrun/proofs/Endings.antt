@@ -35,7 +35,7 @@ use Rattle.covcommand.specs.declared.asked.TotalsForm.TheVariants as forms
 use Rattle.covrun.specs.WorkFault.{IsRefusal, of_work}
 use Rattle.covrun.specs.declared.work.WorkFault.{WorkFault}
 use Rattle.covrun.specs.declared.work.WorkFault.TheVariants.{Words, Memory}
-use Rattle.covrun.specs.Call.{StopsEarly, AreTextsIn, IsUnreadable, WorkEnds, IsServed, IsWorkDone, IsTaskDone, IsCutShort, IsEndingPrinted, IsEndingReported, IsEndingWritten, IsUnwritten, IsWritten}
+use Rattle.covrun.specs.Call.{StopsEarly, AreTextsIn, IsUnreadable, WorkEnds, IsServed, IsWorkDone, IsTaskDone, IsCutShort, IsEndingPrinted, IsEndingReported, IsEndingWritten, IsUnwritten}
 use Rattle.covrun.specs.Check.{IsCheck}
 use Rattle.covworld.specs.Folder.{FolderData}
 use Rattle.covrun.specs.Naming.{naming_of, told_lines, told_name}

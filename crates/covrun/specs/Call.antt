@@ -37,7 +37,7 @@ use Rattle.covrun.specs.Work.{WorkData, TaskData, Serves, Collects, Checks, last
 use Rattle.covrun.specs.Check.{IsCheck}
 use Rattle.covlist.specs.Shown.{shown_name}
 use Rattle.covworld.specs.Folder.{FolderData, AreTextsOf}
-use Rattle.covworld.specs.OutputFiles.{AddsName, OutputFilesData, Finishes, file_of}
+use Rattle.covworld.specs.OutputFiles.{IsWritten, file_of}
 use Rattle.covworld.specs.Streams.{SinksData, Complains, Withholds, Delivers, DeliversAndComplains}
 use Rattle.covworld.specs.World.{WorldData, ChangesSinksAlone}
 
@@ -126,12 +126,6 @@ IsEndingPrinted (Prints text) status old new =
 IsEndingPrinted (FallsShort text lines) status old new =
     ((status ≡ status_of (FallsShort text lines)) × DeliversAndComplains text lines old new) ⊎ IsCutShort text status old new
 IsEndingPrinted ending status old new = (status ≡ status_of ending) × Withholds old new × Complains (complaint ending) old new
-
--- the text went into a file of this name, which was finished
-abbrev pub IsWritten : (name text : List ℕ) → OutputFilesData → OutputFilesData → Type 0
-IsWritten name text files after =
-    Finishes name text files.finished after.finished × AddsName name files.names after.names × (after.begun ≡ files.begun)
-    × (after.failed ≡ files.failed)
 
 -- the file of this name couldn't be written. No file was finished, and the failure is reported
 abbrev pub IsUnwritten : (name : List ℕ) → (status : ℕ) → WorldData → WorldData → Type 0

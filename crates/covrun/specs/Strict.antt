@@ -1,6 +1,6 @@
 -- What a strict call refuses beside texts with a fault: texts that hold nothing or that have lines which say nothing, and patterns that
 -- match no file.
-use Rattle.std.specs.List.{flat_map, list_any}
+use Rattle.std.specs.List.{flat_map}
 use Rattle.std.specs.Prelude.{◌≡◌, ℕ, Bool, false, IsTrue, ◌&&◌, ◌==◌, nat_lt, if◌then◌else◌, List, [], ◌++◌, codes, map, Result, Ok, Err}
 use Rattle.covcheck.specs.Skipped.{IsSkippedIn}
 use Rattle.covcheck.specs.SummaryLine.{summary_text}
@@ -16,10 +16,10 @@ use Rattle.covworkers.specs.Collect.{IsCollectedWhole}
 use Rattle.covjobs.specs.Inputs.{InputData, TraceInput, Lcov2Input, GcovInput, IsCollected, IsOutcomeOf}
 use Rattle.covworkers.specs.declared.refused.RefusedInput.{RefusedInput}
 use Rattle.covdata.specs.Row.{SubmissionData}
+use Rattle.covlist.specs.Chosen.{is_matched}
 use Rattle.covlist.specs.Shown.{shown_name}
 use Rattle.covdata.specs.declared.fault.ReadFault.{ReadFault}
 use Rattle.covreport.specs.Choice.{ChoiceData, AllFiles, Extracted, Removed, Filtered}
-use Rattle.covreport.specs.Pattern.{matches}
 use Rattle.covsession.specs.Session.{said}
 use Rattle.covtable.specs.Content.{SectionData}
 use Rattle.covtable.specs.Files.{FileTotalsData, files_with_totals}
@@ -98,10 +98,6 @@ asked_patterns (Answer op) = patterns_of_op op
 asked_patterns (ChosenReport choice) = patterns_of_choice choice
 asked_patterns (ChosenTotals form choice limits) = patterns_of_choice choice
 asked_patterns (ChosenList form choice) = patterns_of_choice choice
-
--- the pattern matches the path of one of these files
-abbrev pub is_matched : List FileTotalsData → (pattern : List ℕ) → Bool
-is_matched files pattern = list_any (λ f. matches pattern f.path) files
 
 -- the line about a pattern, with its control bytes in hexadecimal digits: none if it matches a file
 abbrev pub unmatched_line : List FileTotalsData → (pattern : List ℕ) → List ℕ

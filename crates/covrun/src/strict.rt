@@ -9,7 +9,7 @@ ghost use Rattle.covtable.specs.ValuesView.{file_totals_data};
 ghost use Rattle.covreport.specs.ChoiceView.{choice_data};
 ghost use Rattle.covbook.specs.View.{op_data};
 ghost use Rattle.covrun.specs.Files.{IsUncleanFault};
-ghost use Rattle.covrun.specs.Strict.{HoldsIn, IsStrictOutcome, is_clean as is_clean_summary, is_matched, patterns_of_choice, patterns_of_op, unmatched_line};
+ghost use Rattle.covrun.specs.Strict.{HoldsIn, IsStrictOutcome, is_clean as is_clean_summary, patterns_of_choice, patterns_of_op, unmatched_line};
 
 use crate::messages::MATCHES_NO_FILE;
 use crate::text_fault::TextFault;
@@ -17,9 +17,9 @@ use covbook::{Op, PackedRef};
 use covcheck::{Format, TextSummary, summary_line, summary_of};
 use covdata::{Bytes, Memory};
 use covjobs::Input;
-use covlist::put_shown_name;
+use covlist::{matches_a_file, put_shown_name};
 use covpacked::PackedSubmission;
-use covreport::{Choice, Patterns, matches};
+use covreport::{Choice, Patterns};
 use covtable::FileTotals;
 use covworkers::LateFault;
 use std::alloc::Global;
@@ -134,16 +134,4 @@ fn add_if_unmatched(
     put_shown_name(pattern, lines)?;
     lines.append(MATCHES_NO_FILE)?;
     Ok(())
-}
-
-/// Whether `pattern` matches the path of one of `files`.
-fn matches_a_file(pattern: &[u8], files: &[FileTotals<'_>]) -> bool
-    ensures { result ≡ is_matched (map file_totals_data files.now) pattern.now }
-{
-    for file in files {
-        if matches(pattern, file.path) {
-            return true;
-        }
-    }
-    false
 }

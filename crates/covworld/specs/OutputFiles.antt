@@ -31,6 +31,12 @@ abbrev pub RefusedOnlyIf : (MayRefuse : Type 0) → OutputFault → Type 0
 RefusedOnlyIf MayRefuse Failed = MayRefuse
 RefusedOnlyIf MayRefuse Memory = Unit {0}
 
+-- one more file was finished, with this name and this text, and nothing else changed
+abbrev pub IsWritten : (name text : List ℕ) → OutputFilesData → OutputFilesData → Type 0
+IsWritten name text files after =
+    Finishes name text files.finished after.finished × AddsName name files.names after.names × (after.begun ≡ files.begun)
+    × (after.failed ≡ files.failed)
+
 -- a file that was just begun has no bytes. Nothing is said if the finished files aren't known
 abbrev pub IsEmptyIfKnown : (finished : Option (List (List ℕ × List ℕ))) → (written : Option (List ℕ)) → Type 0
 IsEmptyIfKnown None written = Unit {0}

@@ -1,7 +1,7 @@
 use Rattle.std.specs.Prelude.{◌≡◌, drop, map}
 use Rattle.covtable.specs.ValuesView.{file_totals_data}
-use Rattle.covrun.specs.Strict.{is_matched}
-use Rattle.covrun.proofs.strict.matches_a_file.Given as goal
+use Rattle.covlist.specs.Chosen.{is_matched}
+use Rattle.covlist.proofs.matching.matches_a_file.Given as goal
 
 -- none of the files so far is matched, so the further files decide the result
 abbrev pub invariant-loop-file : goal.invariant-loop-file

@@ -1,0 +1,186 @@
+-- How a call ends once its files are collected.
+use Rattle.std.specs.List.{count_by, flat_map, list_all}
+use Rattle.std.specs.Prelude.{◌==◌, ◌&&◌, ◌++◌, ℕ, Bool, true, false, not, min, fold, List, [], ◌∷◌, codes, slice_get, unwrap_or, if◌then◌else◌, Option, None, Some}
+use Rattle.covbook.specs.Op.{AnswerData, AcceptedAnswer, ClashAnswer, DroppedAnswer, RenamedAnswer, NoSuchTestAnswer, TextAnswer, EntryData}
+use Rattle.covbook.specs.Step.{ops_in, table_of}
+use Rattle.covcommand.specs.declared.asked.Overview.{Overview}
+use Rattle.covcommand.specs.declared.asked.Overview.TheVariants as overviews
+use Rattle.covcommand.specs.declared.asked.Strictness.{Strictness}
+use Rattle.covcommand.specs.declared.asked.Strictness.TheVariants.{Lenient, Strict}
+use Rattle.covcommand.specs.declared.asked.TotalsForm.{TotalsForm}
+use Rattle.covcommand.specs.declared.asked.TotalsForm.TheVariants.{Words, Json}
+use Rattle.covlimit.specs.Limits.{shortfalls}
+use Rattle.covlist.specs.Chosen.{chosen_files, chooses_any, is_matched, totals_of_chosen}
+use Rattle.covlist.specs.Json.{list_json_of, summary_json_of}
+use Rattle.covlist.specs.Table.{list_table_of}
+use Rattle.covreport.specs.Choice.{ChoiceData, AllFiles, Extracted, Removed, Filtered}
+use Rattle.covreport.specs.Report.{report_text}
+use Rattle.covreport.specs.Summary.{summary_of}
+use Rattle.covtable.specs.Content.{SectionData, content_at}
+use Rattle.covworkers.specs.declared.refused.RefusedInput.{RefusedInput}
+use Rattle.covcombine.specs.Messages.{clash_line, expected_line, fault_line, misfits_line, no_record_line, none_left_line, option_name, strange_words, told, unmatched_line, unreadable_line}
+use Rattle.covcombine.specs.Options.{CombineData}
+use Rattle.covcombine.specs.declared.call_fault.CallOption.TheVariants.{Include, Exclude}
+use Rattle.covcombine.specs.declared.call_fault.CallOption.{CallOption}
+use Rattle.covcombine.specs.declared.ending.Ending.{Ending}
+use Rattle.covcombine.specs.declared.ending.Ending.TheVariants.{Fails, Gives}
+use Rattle.covcombine.specs.declared.note.Note.{Note}
+use Rattle.covcombine.specs.declared.note.Note.TheVariants.{Unreadable, Strange, NoRecord, Faulty, Merged}
+
+-- ---- lines about files
+
+-- the line about a file with this name and this number of lines that don't fit
+abbrev pub misfits_told : (front : List ℕ) → Strictness → (name : List ℕ) → (misfits : ℕ) → List ℕ
+misfits_told front strictness name misfits = if misfits == 0 then [] else misfits_line front strictness name misfits
+
+-- what is doubtful of a file: a warning, unless the call is strict
+abbrev pub warning_of : Strictness → (name : List ℕ) → Note → List ℕ
+warning_of Lenient name (Merged misfits) = misfits_told (codes "warning: ") Lenient name misfits
+warning_of strictness name note = []
+
+-- why a call fails, if it fails for the file of this name
+abbrev pub refusal_of : Strictness → (name : List ℕ) → Note → List ℕ
+refusal_of strictness name Unreadable = unreadable_line name
+refusal_of strictness name (Strange kind) = told name (strange_words name kind)
+refusal_of strictness name (NoRecord begins sections) = no_record_line name begins sections
+refusal_of strictness name (Faulty fault) = fault_line name fault
+refusal_of Lenient name (Merged misfits) = []
+refusal_of Strict name (Merged misfits) = misfits_told [] Strict name misfits
+
+-- such a line about each file, in the files' order
+abbrev pub lines_by : (List ℕ → Note → List ℕ) → (files : List (List ℕ)) → List (RefusedInput Note) → List ℕ
+lines_by line files notes = flat_map (λ (n : RefusedInput Note). line (unwrap_or (slice_get files n.index) []) n.fault) notes
+
+abbrev pub clash_of_answer : AnswerData → List ℕ
+clash_of_answer (AcceptedAnswer number items odd) = []
+clash_of_answer (ClashAnswer clash) = clash_line clash
+clash_of_answer (DroppedAnswer sections) = []
+clash_of_answer (RenamedAnswer sections) = []
+clash_of_answer NoSuchTestAnswer = []
+clash_of_answer (TextAnswer text) = []
+
+-- the lines about clashes, in the order of the history
+abbrev pub clash_lines : List EntryData → List ℕ
+clash_lines entries = flat_map (λ (e : EntryData). clash_of_answer e.answer) entries
+
+-- ---- how many files were read
+
+abbrev pub is_merged : Note → Bool
+is_merged Unreadable = false
+is_merged (Strange kind) = false
+is_merged (NoRecord begins sections) = false
+is_merged (Faulty fault) = false
+is_merged (Merged misfits) = true
+
+abbrev pub merged_in : List (RefusedInput Note) → ℕ
+merged_in notes = count_by (λ (n : RefusedInput Note). is_merged n.fault) notes
+
+abbrev pub unexpected : (expected : Option ℕ) → (read : ℕ) → List ℕ
+unexpected None read = []
+unexpected (Some expected) read = if expected == read then [] else expected_line expected read
+
+-- ---- patterns
+
+abbrev pub includes_of : ChoiceData → List (List ℕ)
+includes_of AllFiles = []
+includes_of (Extracted patterns) = []
+includes_of (Removed patterns) = []
+includes_of (Filtered includes excludes) = includes
+
+abbrev pub excludes_of : ChoiceData → List (List ℕ)
+excludes_of AllFiles = []
+excludes_of (Extracted patterns) = []
+excludes_of (Removed patterns) = []
+excludes_of (Filtered includes excludes) = excludes
+
+-- a line about each pattern of the option that matches no source file
+abbrev pub unmatched : (front : List ℕ) → CallOption → List SectionData → (patterns : List (List ℕ)) → List ℕ
+unmatched front option sections patterns =
+    flat_map (λ pattern. if is_matched sections pattern then [] else unmatched_line front (option_name option) pattern) patterns
+
+-- what is doubtful of the patterns: those that match no source file, and that they leave none
+abbrev pub pattern_lines : (front : List ℕ) → ChoiceData → List SectionData → List ℕ
+pattern_lines front choice sections =
+    unmatched front Include sections (includes_of choice)
+    ++ (unmatched front Exclude sections (excludes_of choice) ++ (if chooses_any choice sections then [] else none_left_line front))
+
+abbrev pub is_clash : AnswerData → Bool
+is_clash (AcceptedAnswer number items odd) = false
+is_clash (ClashAnswer clash) = true
+is_clash (DroppedAnswer sections) = false
+is_clash (RenamedAnswer sections) = false
+is_clash NoSuchTestAnswer = false
+is_clash (TextAnswer text) = false
+
+-- each file was read, and all of it was added up
+abbrev pub is_whole : List EntryData → List (RefusedInput Note) → Bool
+is_whole entries notes =
+    list_all (λ (n : RefusedInput Note). is_merged n.fault) notes && list_all (λ (e : EntryData). not (is_clash e.answer)) entries
+
+-- patterns are judged by the whole alone
+abbrev pub judged : (front : List ℕ) → CombineData → List EntryData → List (RefusedInput Note) → List ℕ
+judged front work entries notes = if is_whole entries notes then pattern_lines front work.choice (content_at (table_of (ops_in entries))) else []
+
+abbrev pub pattern_warnings : Strictness → CombineData → List EntryData → List (RefusedInput Note) → List ℕ
+pattern_warnings Lenient work entries notes = judged (codes "warning: ") work entries notes
+pattern_warnings Strict work entries notes = []
+
+abbrev pub pattern_refusals : Strictness → CombineData → List EntryData → List (RefusedInput Note) → List ℕ
+pattern_refusals Lenient work entries notes = []
+pattern_refusals Strict work entries notes = judged [] work entries notes
+
+-- ---- the end
+
+abbrev pub warnings : CombineData → List EntryData → List (RefusedInput Note) → List ℕ
+warnings work entries notes = lines_by (warning_of work.strictness) work.files notes ++ pattern_warnings work.strictness work entries notes
+
+-- why the call fails: files in their order, clashes, how many files were read, and patterns
+abbrev pub failures : CombineData → List EntryData → List (RefusedInput Note) → List ℕ
+failures work entries notes =
+    lines_by (refusal_of work.strictness) work.files notes
+    ++ (clash_lines entries ++ (unexpected work.expected (merged_in notes) ++ pattern_refusals work.strictness work entries notes))
+
+-- the status of a call that fails for a file with this note
+abbrev pub note_status : Note → ℕ
+note_status Unreadable = 1
+note_status (Strange kind) = 5
+note_status (NoRecord begins sections) = 5
+note_status (Faulty fault) = 4
+note_status (Merged misfits) = 5
+
+abbrev pub answer_status : AnswerData → ℕ
+answer_status answer = if is_clash answer then 4 else 5
+
+-- the worst status, which is the least
+abbrev pub failure_status : List EntryData → List (RefusedInput Note) → ℕ
+failure_status entries notes =
+    fold (λ status (e : EntryData). min status (answer_status e.answer))
+    (fold (λ status (n : RefusedInput Note). min status (note_status n.fault)) 5 notes) entries
+
+-- the summary or the list of the chosen source files
+abbrev pub overview_text : Overview → TotalsForm → ChoiceData → List SectionData → List ℕ
+overview_text overviews.Summary Words choice sections = summary_of (totals_of_chosen choice sections)
+overview_text overviews.Summary Json choice sections = summary_json_of (totals_of_chosen choice sections)
+overview_text overviews.List Words choice sections = list_table_of (chosen_files choice sections) (totals_of_chosen choice sections)
+overview_text overviews.List Json choice sections = list_json_of (chosen_files choice sections) (totals_of_chosen choice sections)
+
+-- what a call gives that doesn't fail: of the chosen source files of this table, the tracefile, an overview, and lines about rates that
+-- are missed
+abbrev pub given : (warnings : List ℕ) → CombineData → List SectionData → Ending
+given warnings work sections = Gives (record {
+  warnings = warnings;
+  tracefile = report_text work.choice sections;
+  overview = overview_text work.overview work.form work.choice sections;
+  missed = shortfalls work.limits (totals_of_chosen work.choice sections);
+})
+
+-- warnings stand before what the call fails for, so the last lines of a log say why
+abbrev pub fails_for : (failures warnings : List ℕ) → (status : ℕ) → (otherwise : Ending) → Ending
+fails_for [] warnings status otherwise = otherwise
+fails_for (b ∷ bs) warnings status otherwise = Fails status (warnings ++ (b ∷ bs))
+
+-- how a call ends that has collected this history and these notes
+abbrev pub end_of : CombineData → List EntryData → List (RefusedInput Note) → Ending
+end_of work entries notes =
+    fails_for (failures work entries notes) (warnings work entries notes) (failure_status entries notes)
+    (given (warnings work entries notes) work (content_at (table_of (ops_in entries))))

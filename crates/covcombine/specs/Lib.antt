@@ -1,0 +1,13 @@
+pub use Rattle.covcommand.specs.Asked
+pub use Rattle.covworld.specs.Folder
+pub use Rattle.covworld.specs.OutputFiles
+pub use Rattle.covworld.specs.Streams
+pub use Rattle.covworld.specs.World
+pub mod Strangers
+pub mod Notes
+pub mod Options
+pub mod Messages
+pub mod Combine
+pub mod Combined
+pub mod View
+pub mod Steps

@@ -1,0 +1,144 @@
+-- The lines of `combine` on standard error, by their causes. Names, patterns and checksums are shown as in a list.
+use Rattle.std.specs.Prelude.{◌==◌, ◌++◌, ℕ, zero, suc, List, [], ◌∷◌, codes, decimal, flat_map, if◌then◌else◌, Option, None, Some}
+use Rattle.covcommand.specs.declared.asked.Strictness.{Strictness}
+use Rattle.covcommand.specs.declared.asked.Strictness.TheVariants.{Lenient, Strict}
+use Rattle.covdata.specs.declared.fault.ReadFault.{ReadFault}
+use Rattle.covdata.specs.declared.fault.ReadFault.TheVariants as faults
+use Rattle.covdata.specs.declared.trace_line.LineFault.{LineFault}
+use Rattle.covdata.specs.declared.trace_line.LineFault.TheVariants.{BadLine, EmptyPath, NumberTooLarge}
+use Rattle.covlist.specs.Shown.{shown_name}
+use Rattle.covsession.specs.Session.{said}
+use Rattle.covtable.specs.Clash.{ClashData}
+use Rattle.covcombine.specs.declared.call_fault.CallFault.{CallFault}
+use Rattle.covcombine.specs.declared.call_fault.CallFault.TheVariants.{ManyPatterns, LongPattern, NoRate, NoRoom, NoName, Twice}
+use Rattle.covcombine.specs.declared.call_fault.CallOption.{CallOption}
+use Rattle.covcombine.specs.declared.call_fault.CallOption.TheVariants as options
+use Rattle.covcombine.specs.declared.stranger.Stranger.{Stranger}
+use Rattle.covcombine.specs.declared.stranger.Stranger.TheVariants.{Empty, Gzip, Compress, Bzip2, Xz, Zstd, Zip, Utf16, Marked, Gcda}
+
+-- `FILE: words` and `FILE:LINE: words`
+abbrev pub told : (name words : List ℕ) → List ℕ
+told name words = said (shown_name name ++ (codes ": " ++ words))
+
+abbrev pub told_at : (name : List ℕ) → (line : ℕ) → (words : List ℕ) → List ℕ
+told_at name line words = said (shown_name name ++ (codes ":" ++ (decimal line ++ (codes ": " ++ words))))
+
+-- a number with a word in the singular or in the plural
+abbrev pub counted : ℕ → (one many : List ℕ) → List ℕ
+counted number one many = decimal number ++ (codes " " ++ (if number == 1 then one else many))
+
+-- ---- files that can't be read, or are no tracefiles
+
+abbrev pub unreadable_line : (name : List ℕ) → List ℕ
+unreadable_line name = told name (codes "can't be read")
+
+-- a name as a word of a shell command: in single quotes (39), with each single quote in it written as '\''
+abbrev pub quoted_byte : ℕ → List ℕ
+quoted_byte b = if b == 39 then codes "'\\''" else shown_name (b ∷ [])
+
+abbrev pub quoted : (name : List ℕ) → List ℕ
+quoted name = codes "'" ++ (flat_map quoted_byte name ++ codes "'")
+
+-- a packed file, by the name of its format and the program that unpacks it
+abbrev pub packed_words : (name format program : List ℕ) → List ℕ
+packed_words name format program =
+    codes "packed by " ++ (format ++ (codes " (unpack it first, or name it as <(" ++ (program ++ (codes " " ++ (quoted name ++ codes "))")))))
+
+abbrev pub strange_words : (name : List ℕ) → Stranger → List ℕ
+strange_words name Empty = codes "empty"
+strange_words name Gzip = packed_words name (codes "gzip") (codes "zcat")
+strange_words name Compress = packed_words name (codes "compress") (codes "zcat")
+strange_words name Bzip2 = packed_words name (codes "bzip2") (codes "bzcat")
+strange_words name Xz = packed_words name (codes "xz") (codes "xzcat")
+strange_words name Zstd = packed_words name (codes "zstd") (codes "zstdcat")
+strange_words name Zip = packed_words name (codes "zip") (codes "unzip -p")
+strange_words name Utf16 = codes "UTF-16 text (write it as UTF-8)"
+strange_words name Marked = codes "begins with a byte order mark (write it without)"
+strange_words name Gcda = codes "counts of gcc (let geninfo read them)"
+
+abbrev pub begins_words : (line : List ℕ) → List ℕ
+begins_words [] = codes "begins with an empty line"
+begins_words (b ∷ line) = codes "begins with \"" ++ (shown_name (b ∷ line) ++ codes "\"")
+
+-- `begins`: the first line, as far as it was looked at
+abbrev pub no_record_words : (begins : List ℕ) → (sections : ℕ) → List ℕ
+no_record_words begins zero = begins_words begins
+no_record_words begins (suc sections) = codes "no count in its " ++ counted (suc sections) (codes "section") (codes "sections")
+
+abbrev pub no_record_line : (name begins : List ℕ) → (sections : ℕ) → List ℕ
+no_record_line name begins sections = told name (codes "no record (" ++ (no_record_words begins sections ++ codes ")"))
+
+-- ---- faults
+
+abbrev pub line_fault_words : LineFault → List ℕ
+line_fault_words BadLine = codes "the fields don't fit the line's key: was the file cut here?"
+line_fault_words NumberTooLarge = codes "a number is too large"
+line_fault_words EmptyPath = codes "no source file is named"
+
+-- a fault of the file of this name. The other faults are those of annotated source
+abbrev pub fault_line : (name : List ℕ) → ReadFault → List ℕ
+fault_line name (faults.Line at why) = told_at name at (line_fault_words why)
+fault_line name (faults.Outside at) = told_at name at (codes "the line stands in no section: is the beginning of the file missing?")
+fault_line name (faults.Inside at) = told_at name at (codes "the line stands in a section that isn't ended: were two files joined?")
+fault_line name (faults.Misplaced at) = told_at name at (codes "no FNL line of this index stands above the line in its section")
+fault_line name faults.OpenEnd = told name (codes "ends within a section: was its writer killed, or a disk full?")
+fault_line name faults.TooLong = told name (codes "no section ends within 64 MiB: is it a tracefile?")
+fault_line name other = told name (codes "refused")
+
+-- ---- doubts: warnings, or why a strict call fails. `front` is `warning: ` or nothing
+
+abbrev pub misfit_words : Strictness → List ℕ
+misfit_words Lenient = codes ": wrong totals, or counts of functions that start nowhere"
+misfit_words Strict = codes ": wrong totals, counts of functions that start nowhere, or unknown keys"
+
+-- so many lines of the file of this name don't fit
+abbrev pub misfits_line : (front : List ℕ) → Strictness → (name : List ℕ) → ℕ → List ℕ
+misfits_line front strictness name number =
+    told name (front ++ (counted number (codes "line doesn't fit") (codes "lines don't fit") ++ misfit_words strictness))
+
+abbrev pub unmatched_line : (front option pattern : List ℕ) → List ℕ
+unmatched_line front option pattern = said (front ++ (option ++ (codes " " ++ (shown_name pattern ++ codes ": matches no source file"))))
+
+abbrev pub none_left_line : (front : List ℕ) → List ℕ
+none_left_line front = said (front ++ codes "--include and --exclude leave no source file")
+
+-- ---- others
+
+abbrev pub clash_line : ClashData → List ℕ
+clash_line clash =
+    told_at clash.file clash.line
+    (codes "checksum " ++ (shown_name clash.given ++ (codes ", but " ++ (shown_name clash.held ++ codes " in an earlier record: two versions of the source?"))))
+
+abbrev pub expected_line : (expected read : ℕ) → List ℕ
+expected_line expected read = said (codes "expected " ++ (counted expected (codes "file") (codes "files") ++ (codes ", but read " ++ decimal read)))
+
+abbrev pub unwritten_line : (name : List ℕ) → List ℕ
+unwritten_line name = told name (codes "can't be written")
+
+-- standard output can't be written. `file`: the file that was written before
+abbrev pub cut_line : (file : Option (List ℕ)) → List ℕ
+cut_line None = said (codes "standard output can't be written")
+cut_line (Some name) = said (codes "standard output can't be written, but " ++ (shown_name name ++ codes " is"))
+
+-- ---- options that don't do
+
+abbrev pub option_name : CallOption → List ℕ
+option_name options.Include = codes "--include"
+option_name options.Exclude = codes "--exclude"
+option_name options.FailUnderLines = codes "--fail-under-lines"
+option_name options.FailUnderFunctions = codes "--fail-under-functions"
+option_name options.FailUnderBranches = codes "--fail-under-branches"
+option_name options.List = codes "--list"
+option_name options.Json = codes "--json"
+
+abbrev pub error_line : (words : List ℕ) → List ℕ
+error_line words = said (codes "error: " ++ words)
+
+abbrev pub call_fault_line : CallFault → List ℕ
+call_fault_line (ManyPatterns option) = error_line (option_name option ++ codes ": more than 64 patterns")
+call_fault_line (LongPattern option) = error_line (option_name option ++ codes ": a pattern has more than 1024 bytes")
+call_fault_line (NoRate option word) =
+    error_line (option_name option ++ (codes " " ++ (shown_name word.now ++ codes ": a number from 0 to 100 with at most six decimals was expected")))
+call_fault_line (NoRoom option) = error_line (option_name option ++ codes ": needs -o FILE, since standard output has the tracefile")
+call_fault_line NoName = error_line (codes "no file is named: did a pattern match nothing?")
+call_fault_line (Twice name) = told name.now (codes "named twice")

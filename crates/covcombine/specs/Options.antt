@@ -1,0 +1,86 @@
+-- What the options of a call ask for, and which of them don't do.
+use Rattle.std.specs.Prelude.{◌≡◌, ◌<◌, ◌≤◌, ℕ, List, [], ◌∷◌, ◌++◌, length, Option, None, Some, Contains}
+use Rattle.covcommand.specs.declared.asked.CombineOptions.{CombineOptions}
+use Rattle.covcommand.specs.declared.asked.Limits.{Limits}
+use Rattle.covcommand.specs.declared.asked.Overview.{Overview}
+use Rattle.covcommand.specs.declared.asked.Overview.TheVariants as overviews
+use Rattle.covcommand.specs.declared.asked.SourceFilter.{SourceFilter}
+use Rattle.covcommand.specs.declared.asked.Strictness.{Strictness}
+use Rattle.covcommand.specs.declared.asked.TotalsForm.{TotalsForm}
+use Rattle.covcommand.specs.declared.asked.TotalsForm.TheVariants.{Json}
+use Rattle.covlimit.specs.Limits.{LimitsData}
+use Rattle.covlimit.specs.Rates.{IsRate}
+use Rattle.covreport.specs.Choice.{ChoiceData, AllFiles, Filtered, max_pattern_bytes, max_patterns}
+use Rattle.covcombine.specs.declared.call_fault.CallFault.{CallFault}
+use Rattle.covcombine.specs.declared.call_fault.CallFault.TheVariants.{ManyPatterns, LongPattern, NoRate, NoRoom, NoName, Twice}
+use Rattle.covcombine.specs.declared.call_fault.CallOption.{CallOption}
+use Rattle.covcombine.specs.declared.call_fault.CallOption.TheVariants.{Include, Exclude, FailUnderLines, FailUnderFunctions, FailUnderBranches, List as ShowList, Json as PrintJson}
+
+-- what a call has to do. `files`: the files to read. `choice`: the source files that are printed and counted. `overview` and `form`: what
+-- standard output has if the tracefile goes into a file. `expected`: how many files have to be read
+pub record CombineData : Type 0 where
+  pub files : List (List ℕ)
+  pub strictness : Strictness
+  pub choice : ChoiceData
+  pub overview : Overview
+  pub form : TotalsForm
+  pub limits : LimitsData
+  pub expected : Option ℕ
+
+-- ---- options that don't do
+
+abbrev pub patterns_in : CallOption → SourceFilter → List (List ℕ)
+patterns_in Include filter = filter.includes
+patterns_in Exclude filter = filter.excludes
+patterns_in other filter = []
+
+abbrev pub limit_in : CallOption → Limits → Option (List ℕ)
+limit_in FailUnderLines limits = limits.lines
+limit_in FailUnderFunctions limits = limits.functions
+limit_in FailUnderBranches limits = limits.branches
+limit_in other limits = None
+
+-- the option says what standard output has beside a file
+abbrev pub AsksForOverview : CallOption → CombineOptions → Type 0
+AsksForOverview ShowList options = options.overview ≡ overviews.List
+AsksForOverview PrintJson options = options.form ≡ Json
+AsksForOverview other options = ⊥
+
+-- a name stands twice
+abbrev pub IsTwice : List (List ℕ) → (name : List ℕ) → Type 0
+IsTwice names name = (before after : List (List ℕ)) × (names ≡ before ++ name ∷ after) × Contains before name
+
+-- the call isn't begun for this reason. `file`: the name of the file that the call names, unless that is standard output
+abbrev pub IsCallFault : CombineOptions → (file : Option (List ℕ)) → CallFault → Type 0
+IsCallFault options file (ManyPatterns option) = max_patterns < length (patterns_in option options.filter)
+IsCallFault options file (LongPattern option) = (pattern : List ℕ) × Contains (patterns_in option options.filter) pattern × (max_pattern_bytes < length pattern)
+IsCallFault options file (NoRate option word) = (limit_in option options.limits ≡ Some word.now) × (IsRate word.now → ⊥)
+IsCallFault options file (NoRoom option) = (file ≡ None) × AsksForOverview option options
+IsCallFault options file NoName = options.names ≡ []
+IsCallFault options file (Twice name) = IsTwice options.names name.now
+
+-- ---- the work
+
+-- without patterns all source files are chosen
+abbrev pub choice_by : (includes excludes : List (List ℕ)) → ChoiceData
+choice_by [] [] = AllFiles
+choice_by includes excludes = Filtered includes excludes
+
+abbrev pub limits_of : Limits → LimitsData
+limits_of limits = record { lines = limits.lines; functions = limits.functions; branches = limits.branches }
+
+-- the work that these options ask for, all of which do
+pub record IsWorkOf (options : CombineOptions) (strictness : Strictness) (file : Option (List ℕ)) (work : CombineData) : Type 0 where
+  pub faultless : (fault : CallFault) → IsCallFault options file fault → ⊥
+  pub files : work.files ≡ options.names
+  pub strict : work.strictness ≡ strictness
+  pub choice : work.choice ≡ choice_by options.filter.includes options.filter.excludes
+  pub overview : work.overview ≡ options.overview
+  pub form : work.form ≡ options.form
+  pub limits : work.limits ≡ limits_of options.limits
+  pub expected : work.expected ≡ options.expected
+
+-- the number of jobs: the one that the call names, or else some number from 1 to 16
+abbrev pub AreJobsFor : (named : Option ℕ) → (jobs : ℕ) → Type 0
+AreJobsFor None jobs = (1 ≤ jobs) × (jobs ≤ 16)
+AreJobsFor (Some number) jobs = jobs ≡ number
