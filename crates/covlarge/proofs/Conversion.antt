@@ -1,5 +1,5 @@
 -- What is read piece by piece is what the whole is read as.
-use Rattle.std.proofs.Common.{◌≡◌, ◌⊎◌, ℕ, suc, ◌+◌, ◌≤◌, List, [], ◌∷◌, ◌++◌, length, Option, Some, None, Result, Ok, Err, IsSome, IfSome, refl, sym, ap, subst, ◌∙◌, append_assoc, append-nil, arith, inl, inr}
+use Rattle.std.proofs.Common.{◌≡◌, ◌⊎◌, ℕ, suc, ◌+◌, ◌≤◌, List, [], ◌∷◌, ◌++◌, length, Option, Some, None, Result, Ok, Err, IsSome, IfSome, option_map, refl, sym, ap, subst, ◌∙◌, append_assoc, append-nil, arith, inl, inr}
 use Rattle.std.specs.List.{concat}
 use Rattle.covdata.specs.declared.version.LcovVersion.{LcovVersion}
 use Rattle.covdata.specs.declared.version.LcovVersion.TheVariants.{One, Two}
@@ -13,8 +13,9 @@ use Rattle.covread.specs.Outcome as trace
 use Rattle.covdata.specs.declared.fault.ReadFault.{ReadFault}
 use Rattle.covdata.specs.declared.fault.ReadFault.TheVariants.{TooLong, Line, Outside, Inside, Misplaced}
 use Rattle.covlarge.proofs.Summary.{holds_all_if_told}
+use Rattle.covlarge.proofs.ToCome.{all_after}
 use Rattle.covlarge.specs.Large.{AreLong, BeginsTooLong, IsAll, IsReadAs, IsStop, MayBeReadAs, max_pieces, told_fault}
-use Rattle.covlarge.specs.State.{EndsAs, IsFaultyPiece, MayGive, begun_state}
+use Rattle.covlarge.specs.State.{EndsAs, IsFaultyPiece, MayGive, begun_after, begun_state}
 use Rattle.covlarge.specs.StateData.{StateData}
 use Rattle.covlarge.specs.Summary.{HoldsOnIfTold, SummaryData, nothing_held}
 use Rattle.covlarge.specs.Version.{IsOutcomeOf, IsSkippedOf, IsWholeOf, carried_over}
@@ -117,15 +118,15 @@ module _ {S : Type 0} (left : S → Option (List ℕ)) (v : LcovVersion) (held :
   stop_of text pieces before last rest fault is each (inr (long, inr many)) =
       inr (long, inr (subst (λ (n : ℕ). max_pieces ≤ n) (sym (as_many (IsOutcomeOf v) (carried_over v) nothing_carried pieces before last each)) many))
 
-  read_as : (text : List ℕ) (read : List SubmissionData) (end : End) (pieces : List (List ℕ)) (before : List SubmissionData) (last : CarriedData) (rest : List ℕ) → text ≡ concat pieces ++ rest
+  read_as : (first text : List ℕ) (read : List SubmissionData) (end : End) (pieces : List (List ℕ)) (before : List SubmissionData) (last : CarriedData) (rest : List ℕ) → text ≡ concat pieces ++ rest
       → HaveBeenRead (IsOutcomeOf v) (carried_over v) nothing_carried pieces before last → AreLong (carried_over v) nothing_carried pieces before
-      → EndsAs (begun_state v held source) text before last rest read end → IsReadAs v text read end
-  read_as text read (Ok summary) pieces before last rest is each long (s, outcome, all, holds) =
+      → EndsAs (begun_after v held first source) text before last rest read end → IsReadAs v text read end
+  read_as first text read (Ok summary) pieces before last rest is each long (s, outcome, all, holds) =
       let same : all_of read ≡ joined (all_of before) s = ap all_of all ∙ all_pushed before s in (
         subst (λ (x : SubmissionData). IsWholeOf v text (Ok x)) (sym same) (ok_whole text pieces before last rest s is each outcome),
         holds_all_if_told (IsSkippedOf v) text (all_of read) held summary begins holds,
       )
-  read_as text read (Err fault) pieces before last rest is each long (all, why) = record {
+  read_as first text read (Err fault) pieces before last rest is each long (all, why) = record {
     pieces = pieces;
     rest = rest;
     carried = last;
@@ -140,11 +141,24 @@ module _ {S : Type 0} (left : S → Option (List ℕ)) (v : LcovVersion) (held :
   whole read end (text, (more, is, all), goes) = (
     text,
     subst (λ (t : List ℕ). IsAll (left source) t) (sym is) all,
-    read_as text read end goes.pieces goes.before goes.last goes.rest goes.together goes.each goes.long goes.ends,
+    read_as [] text read end goes.pieces goes.before goes.last goes.rest goes.together goes.each goes.long goes.ends,
   )
 
   pub whole_of : (state : StateData S) → state ≡ begun_state v held source → (read : List SubmissionData) (end : End) → MayGive left state read end → MayBeReadAs v (left source) read end
   whole_of state is read end gives = whole read end (subst (λ (s : StateData S). MayGive left s read end) is gives)
+
+  -- the same if the first bytes were read of the source before
+  after : (first : List ℕ) (read : List SubmissionData) (end : End) → MayGive left (begun_after v held first source) read end
+      → MayBeReadAs v (option_map (λ (more : List ℕ). first ++ more) (left source)) read end
+  after first read end (text, (more, is, all), goes) = (
+    text,
+    all_after first (left source) more text is all,
+    read_as first text read end goes.pieces goes.before goes.last goes.rest goes.together goes.each goes.long goes.ends,
+  )
+
+  pub whole_after : (first : List ℕ) (state : StateData S) → state ≡ begun_after v held first source → (read : List SubmissionData) (end : End) → MayGive left state read end
+      → MayBeReadAs v (option_map (λ (more : List ℕ). first ++ more) (left source)) read end
+  whole_after first state is read end gives = after first read end (subst (λ (s : StateData S). MayGive left s read end) is gives)
 
 -- what the whole holds is told at its end, if that was asked for
 is_told : (p : List ℕ → Type 0) (n : ℕ) (text : List ℕ) (s : SubmissionData) (b : SummaryData) (told : Option SummaryData) → HoldsOnIfTold p n (Some b) text s told → IsSome told
@@ -156,3 +170,14 @@ pub told_at_end : {S : Type 0} (left : S → Option (List ℕ)) (state : StateDa
 told_at_end left state read told begun (text, all, goes) =
     is_told (IsSkippedOf state.version) state.carried.lines text (all_of read) nothing_held told
     (subst (λ (h : Option SummaryData). HoldsOnIfTold (IsSkippedOf state.version) state.carried.lines h text (all_of read) told) begun goes.ends.3)
+
+-- otherwise nothing is told
+isnt_told : (p : List ℕ → Type 0) (n : ℕ) (text : List ℕ) (s : SubmissionData) (told : Option SummaryData) → HoldsOnIfTold p n None text s told → told ≡ None
+isnt_told p n text s None holds = refl
+isnt_told p n text s (Some a) holds = absurd holds
+
+pub untold_at_end : {S : Type 0} (left : S → Option (List ℕ)) (state : StateData S) (read : List SubmissionData) (told : Option SummaryData)
+    → state.held ≡ None → MayGive left state read (Ok told) → told ≡ None
+untold_at_end left state read told none (text, all, goes) =
+    isnt_told (IsSkippedOf state.version) state.carried.lines text (all_of read) told
+    (subst (λ (h : Option SummaryData). HoldsOnIfTold (IsSkippedOf state.version) state.carried.lines h text (all_of read) told) none goes.ends.3)

@@ -1,5 +1,5 @@
 -- The bytes of a source that are still to come, if they are known.
-use Rattle.std.proofs.Common.{◌≡◌, ℕ, suc, List, [], ◌++◌, Option, Some, None, refl, sym, ap, ◌∙◌, append_assoc, append-nil, arith}
+use Rattle.std.proofs.Common.{◌≡◌, ℕ, suc, List, [], ◌++◌, Option, Some, None, option_map, refl, sym, ap, ◌∙◌, append_assoc, append-nil, arith}
 use Rattle.std.proofs.KnownBytes.{Consumes-trans}
 use Rattle.std.specs.Io.KnownBytes.{Consumes, IsAtEnd}
 use Rattle.covlarge.specs.Large.{IsAll}
@@ -21,6 +21,11 @@ pub all_on : (left after : Option (List ℕ)) (bytes more : List ℕ) → Consum
 all_on None after bytes more took all = tt
 all_on (Some xs) None bytes more took all = absurd took
 all_on (Some xs) (Some ys) bytes more took all = ap (λ (t : List ℕ). bytes ++ t) all ∙ sym took
+
+-- the first bytes were read, and the rest is known
+pub all_after : (first : List ℕ) (known : Option (List ℕ)) (more text : List ℕ) → text ≡ first ++ more → IsAll known more → IsAll (option_map (λ (rest : List ℕ). first ++ rest) known) text
+all_after first None more text is all = tt
+all_after first (Some bytes) more text is all = is ∙ ap (λ (rest : List ℕ). first ++ rest) all
 
 -- bytes were read, and some more follow
 pub all_further : (left after : Option (List ℕ)) (bytes : List ℕ) → Consumes left after bytes → (more : List ℕ) × IsAll left (bytes ++ more)

@@ -17,9 +17,13 @@ use Rattle.covpieces.specs.Sections.{EndsSection}
 use Rattle.covdata.specs.declared.fault.ReadFault.{ReadFault}
 use Rattle.covdata.specs.declared.fault.ReadFault.TheVariants.{TooLong}
 
+-- before the first piece, once the first bytes were read of the source
+abbrev pub begun_after : {S : Type 0} → LcovVersion → Option SummaryData → (first : List ℕ) → S → StateData S
+begun_after version held first source = record { version = version; carried = nothing_carried; held = held; left = max_pieces; rest = first; source = source }
+
 -- before the first piece
 abbrev pub begun_state : {S : Type 0} → LcovVersion → Option SummaryData → S → StateData S
-begun_state version held source = record { version = version; carried = nothing_carried; held = held; left = max_pieces; rest = []; source = source }
+begun_state version held source = begun_after version held [] source
 
 -- the text is what is still to come of the tracefile: the bytes that were read and aren't in a piece yet, and then the source's, if
 -- these are known

@@ -1,8 +1,8 @@
 //! A tracefile that is read in chunks.
 
-ghost use Rattle.std.specs.Prelude.{◌≡◌, ℕ, List, [], ◌∷◌, None, Some, Option, Result, Ok as Fine, IfOk, IsSome};
+ghost use Rattle.std.specs.Prelude.{◌≡◌, ◌≤◌, ◌^◌, ℕ, List, [], ◌∷◌, ◌++◌, None, Some, Option, option_map, Result, Ok as Fine, IfOk, IsSome};
 ghost use Rattle.covlarge.specs.Large.{MayBeReadAs, max_pieces};
-ghost use Rattle.covlarge.specs.State.{IsNextPiece, MayGive, begun_state};
+ghost use Rattle.covlarge.specs.State.{IsNextPiece, MayGive, begun_after, begun_state};
 ghost use Rattle.covlarge.specs.Summary.{SummaryData, nothing_held};
 ghost use Rattle.covdata.specs.Row.{SubmissionData};
 ghost use Rattle.covpieces.specs.Pieces.{front_text};
@@ -87,6 +87,46 @@ impl<S: Source + Drop> LargeTracefile<S> {
         LargeTracefile::begun(alloc, version, Some(Held::new()), source)
     }
 
+    /// Like `new`, if the caller has read `first`, the first bytes of the tracefile, from the source.
+    pub fn new_after(
+        alloc: Global,
+        version: LcovVersion,
+        first: Bytes,
+        source: S,
+    ) -> LargeTracefile<S>
+        requires reads { S.reads source ≤ 2 ^ 28 }
+        requires failed_reads { S.failed_reads source ≡ 0 }
+        ensures whole { (read : List SubmissionData) (end : Result (Option SummaryData) Fault) → MayGive S.left result read end
+            → MayBeReadAs version (option_map (λ more. first ++ more) (S.left source)) read end }
+        ensures untold { (read : List SubmissionData) (told : Option SummaryData) → MayGive S.left result read (Fine told) → told ≡ None }
+        ensures source { result.source ≡ source }
+        ensures left { result.left ≡ max_pieces }
+        ensures held { result.held ≡ None }
+    {
+        pieces_are_read_one_by_one();
+        LargeTracefile::begun_after(alloc, version, None, first, source)
+    }
+
+    /// Like `summed`, if the caller has read `first`, the first bytes of the tracefile, from the source.
+    pub fn summed_after(
+        alloc: Global,
+        version: LcovVersion,
+        first: Bytes,
+        source: S,
+    ) -> LargeTracefile<S>
+        requires reads { S.reads source ≤ 2 ^ 28 }
+        requires failed_reads { S.failed_reads source ≡ 0 }
+        ensures whole { (read : List SubmissionData) (end : Result (Option SummaryData) Fault) → MayGive S.left result read end
+            → MayBeReadAs version (option_map (λ more. first ++ more) (S.left source)) read end }
+        ensures told { (read : List SubmissionData) (told : Option SummaryData) → MayGive S.left result read (Fine told) → IsSome told }
+        ensures source { result.source ≡ source }
+        ensures left { result.left ≡ max_pieces }
+        ensures held { result.held ≡ Some nothing_held }
+    {
+        pieces_are_read_one_by_one();
+        LargeTracefile::begun_after(alloc, version, Some(Held::new()), first, source)
+    }
+
     /// The tracefile before its first chunk.
     fn begun(
         alloc: Global,
@@ -98,6 +138,21 @@ impl<S: Source + Drop> LargeTracefile<S> {
         requires failed_reads { S.failed_reads source ≡ 0 }
         ensures { result ≡ begun_state version held source }
     {
+        LargeTracefile::begun_after(alloc, version, held, Bytes::new(alloc), source)
+    }
+
+    /// The tracefile before its first chunk, if `first` was read from the source before.
+    fn begun_after(
+        alloc: Global,
+        version: LcovVersion,
+        held: Option<Held>,
+        first: Bytes,
+        source: S,
+    ) -> LargeTracefile<S>
+        requires reads { S.reads source ≤ 2 ^ 28 }
+        requires failed_reads { S.failed_reads source ≡ 0 }
+        ensures { result ≡ begun_after version held first source }
+    {
         LargeTracefile {
             so_far: SoFar {
                 version,
@@ -105,7 +160,7 @@ impl<S: Source + Drop> LargeTracefile<S> {
                 held,
             },
             left: MAX_PIECES,
-            rest: Bytes::new(alloc),
+            rest: first,
             source,
         }
     }

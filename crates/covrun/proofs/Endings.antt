@@ -38,6 +38,7 @@ use Rattle.covrun.specs.declared.work.WorkFault.TheVariants.{Words, Memory}
 use Rattle.covrun.specs.Call.{StopsEarly, AreTextsIn, IsUnreadable, WorkEnds, IsServed, IsWorkDone, IsTaskDone, IsCutShort, IsEndingPrinted, IsEndingReported, IsEndingWritten, IsUnwritten}
 use Rattle.covrun.specs.Check.{IsCheck}
 use Rattle.covworld.specs.Folder.{FolderData}
+use Rattle.covworld.specs.OutputFiles.{IsWritten}
 use Rattle.covrun.specs.Naming.{naming_of, told_lines, told_name}
 use Rattle.covrun.specs.declared.naming.Naming.{Naming}
 use Rattle.covrun.specs.declared.naming.Naming.TheVariants as namings
