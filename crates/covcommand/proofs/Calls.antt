@@ -7,8 +7,9 @@ use Rattle.clap.specs.Words.{takes, fault_of, subcommand_of}
 use Rattle.clap.specs.declared.error.kind.ErrorKind.TheVariants as kind
 use Rattle.covcommand.specs.Asked.{AsksFor, AsksForAll, IsSizeOf, IsStrictnessOf, rows_met}
 use Rattle.covcommand.specs.CommandLine.{covcollect}
-use Rattle.covcommand.specs.declared.asked.Command.TheVariants.{Check, Extract, Gcov, Merge, Remove, Session, Summary}
+use Rattle.covcommand.specs.declared.asked.Command.TheVariants.{Check, Combine, Extract, Gcov, Merge, Remove, Session, Summary}
 use Rattle.covcommand.specs.declared.asked.Command.TheVariants as commands
+use Rattle.covcommand.specs.declared.asked.Overview.TheVariants as overviews
 use Rattle.covcommand.specs.declared.asked.Strictness.TheVariants.{Lenient, Strict}
 use Rattle.covcommand.specs.declared.asked.TextSize.TheVariants.{Limited, Large}
 use Rattle.covcommand.specs.declared.asked.TotalsForm.TheVariants.{Words, Json}
@@ -571,3 +572,58 @@ version_refused = refl
 pub version_of_one_refused : fault_of covcollect (codes "covcollect" ∷ codes "merge" ∷ codes "--version" ∷ codes "a.info" ∷ []) ≡ kind.UnknownArgument ∷ []
 unfolding clap_on_literals
 version_of_one_refused = refl
+
+-- ---- `combine`
+
+pub combine_some_asked : (output : Option (String Global)) → Some (codes "out") ≡ option_map string_bytes output
+    → AsksForAll (subcommand_of covcollect (codes "covcollect" ∷ codes "combine" ∷ codes "-o" ∷ codes "out" ∷ codes "-j" ∷ codes "3" ∷ codes "--expect" ∷ codes "2" ∷ codes "--strict" ∷ codes "--list" ∷ codes "-q" ∷ codes "f" ∷ codes "g" ∷ []))
+    (record { command = Combine (record { jobs = Some 3; expected = Some 2; filter = record { includes = []; excludes = [] }; overview = overviews.List; form = Words; limits = record { lines = None; functions = None; branches = None }; names = codes "f" ∷ codes "g" ∷ [] }); strictness = Strict; size = Large; output = output })
+unfolding clap_on_literals
+combine_some_asked output is = (
+  (
+    rows_for (codes "covcollect" ∷ codes "combine" ∷ codes "-o" ∷ codes "out" ∷ codes "-j" ∷ codes "3" ∷ codes "--expect" ∷ codes "2" ∷ codes "--strict" ∷ codes "--list" ∷ codes "-q" ∷ codes "f" ∷ codes "g" ∷ []),
+    named (codes "combine") (subcommand_of covcollect (codes "covcollect" ∷ codes "combine" ∷ codes "-o" ∷ codes "out" ∷ codes "-j" ∷ codes "3" ∷ codes "--expect" ∷ codes "2" ∷ codes "--strict" ∷ codes "--list" ∷ codes "-q" ∷ codes "f" ∷ codes "g" ∷ [])) refl,
+    record {
+      jobs = (codes "3", refl, refl);
+      expected = (codes "2", refl, refl);
+      filter = (refl, refl);
+      overview = refl;
+      form = refl;
+      limits = (refl, refl, refl);
+      names = refl;
+    },
+  ),
+  refl,
+  refl,
+  is,
+)
+
+pub combine_few_asked : AsksForAll (subcommand_of covcollect (codes "covcollect" ∷ codes "combine" ∷ codes "--json" ∷ codes "--exclude" ∷ codes "x" ∷ codes "--fail-under-lines" ∷ codes "80" ∷ []))
+    (record { command = Combine (record { jobs = None; expected = None; filter = record { includes = []; excludes = codes "x" ∷ [] }; overview = overviews.Summary; form = Json; limits = record { lines = Some (codes "80"); functions = None; branches = None }; names = [] }); strictness = Lenient; size = Large; output = None })
+unfolding clap_on_literals
+combine_few_asked = (
+  (
+    rows_for (codes "covcollect" ∷ codes "combine" ∷ codes "--json" ∷ codes "--exclude" ∷ codes "x" ∷ codes "--fail-under-lines" ∷ codes "80" ∷ []),
+    named (codes "combine") (subcommand_of covcollect (codes "covcollect" ∷ codes "combine" ∷ codes "--json" ∷ codes "--exclude" ∷ codes "x" ∷ codes "--fail-under-lines" ∷ codes "80" ∷ [])) refl,
+    record { jobs = refl; expected = refl; filter = (refl, refl); overview = refl; form = refl; limits = (refl, refl, refl); names = refl },
+  ),
+  refl,
+  refl,
+  refl,
+)
+
+pub combine_none_taken : takes covcollect (codes "covcollect" ∷ codes "combine" ∷ []) ≡ true
+unfolding clap_on_literals
+combine_none_taken = refl
+
+pub combine_no_jobs_refused : fault_of covcollect (codes "covcollect" ∷ codes "combine" ∷ codes "-j" ∷ codes "0" ∷ codes "f" ∷ []) ≡ kind.ValueValidation ∷ []
+unfolding clap_on_literals
+combine_no_jobs_refused = refl
+
+pub combine_no_files_refused : fault_of covcollect (codes "covcollect" ∷ codes "combine" ∷ codes "--expect" ∷ codes "0" ∷ codes "f" ∷ []) ≡ kind.ValueValidation ∷ []
+unfolding clap_on_literals
+combine_no_files_refused = refl
+
+pub combine_lcov2_refused : fault_of covcollect (codes "covcollect" ∷ codes "combine" ∷ codes "--lcov2" ∷ codes "f" ∷ []) ≡ kind.UnknownArgument ∷ []
+unfolding clap_on_literals
+combine_lcov2_refused = refl

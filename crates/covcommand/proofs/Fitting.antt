@@ -4,6 +4,7 @@ use Rattle.std.specs.Option.{option_map_or}
 use Rattle.std.specs.List.{find, slice_index_or}
 use Rattle.std.specs.Str.{bytes_eq}
 use Rattle.clap.specs.Kinds.{or_else, range_kinds, value_kinds, values_kinds}
+use Rattle.clap.specs.ValueTests.{accepts}
 use Rattle.clap.specs.declared.error.kind.ErrorKind.{ErrorKind}
 use Rattle.clap.specs.declared.error.kind.ErrorKind.TheVariants as kind
 use Rattle.clap.specs.declared.builder.value_parser.Reading.TheVariants.{AsWritten, WithoutMinus}
@@ -13,10 +14,10 @@ use Rattle.clap.specs.Walk.{Row, Text, answers_to, has_row, nothing_held, rows_a
 use Rattle.clap.specs.Simple.{App, Shape, argument_words, built, entered, filled, help_rule, label_of, names_of, rows_at, subcommand_of, with_index, with_subcommand}
 use Rattle.clap.specs.Takes.{is_given}
 use Rattle.clap.specs.Faults.{built_fault, check_fault, entered_fault, fault_of, level_fault, repeat_fault, walk_fault}
-use Rattle.covcommand.specs.CommandLine.{check, covcollect, extract, filtering, flag, gcov, jobs, limit, list, merge, output, patterns, program, remove, several, single, summary, test}
-use Rattle.covcommand.specs.Found.{Fits, HasCheck, HasFiltering, HasFlag, HasFlags, HasListing, HasMerging, HasSome, HasTest}
+use Rattle.covcommand.specs.CommandLine.{check, combine, covcollect, expect, extract, files, filtering, flag, gcov, jobs, json, limit, list, merge, output, own_jobs, patterns, program, quiet, remove, several, single, summary, test}
+use Rattle.covcommand.specs.Found.{Fits, HasCheck, HasCombining, HasFiltering, HasFlag, HasFlags, HasListing, HasMerging, HasSome, HasTest}
 use Rattle.covcommand.proofs.Walks.{EachKeeps, Keeps, level_keeps, no_faults, settled_after}
-use Rattle.covcommand.proofs.Rows.{EachDefaultFits, FitsValues, RowOf, RowsFit, append_fits, defaulted, defaults_fit, given_row, has_default, has_flag, has_jobs, has_some, has_test, held_row, is_flag, numbers, set_fits}
+use Rattle.covcommand.proofs.Rows.{EachDefaultFits, FitsValues, RowOf, RowsFit, append_fits, defaulted, defaults_fit, given_row, has_default, has_flag, has_jobs, has_number_if_any, has_some, has_test, held_row, is_flag, most_of, numbers, set_fits}
 
 no : {A : Type 0} → false ≡ true → A
 no e = absurd cc
@@ -29,15 +30,31 @@ accepted false k e = absurd cc
 
 -- the values of this argument may be any words
 abbrev IsFree : Text → Type 0
-IsFree id = (bytes_eq id (codes "jobs") ≡ false) × (is_flag id ≡ false)
+IsFree id = (most_of id ≡ None) × (is_flag id ≡ false)
+
+not_numbered : {A : Type 0} (most : ℕ) → (let none : Option ℕ = None in none ≡ Some most) → A
+not_numbered most e = absurd cc
 
 any_fit : (id v : Text) (vs : List Text) → IsFree id → FitsValues id AsWritten (v ∷ vs)
-any_fit id v vs free = ((λ e. no (sym free.0 ∙ e)), (λ e. no (sym free.1 ∙ e)))
+any_fit id v vs free = ((λ most e. not_numbered most (sym free.0 ∙ e)), (λ e. no (sym free.1 ∙ e)))
+
+same_most : (a b : ℕ) → (let x : Option ℕ = Some a in let y : Option ℕ = Some b in x ≡ y) → a ≡ b
+same_most a b e = cc
+
+-- a number in the option's bounds fits
+number_fits : (id : Text) (most : ℕ) (v : Text) (vs : List Text) → most_of id ≡ Some most → is_flag id ≡ false → accepts false (numbers most) v ≡ true → FitsValues id WithoutMinus (v ∷ vs)
+number_fits id most v vs is other good =
+    ((λ n e. (subst (λ (m : ℕ). accepts false (numbers m) v ≡ true) (same_most most n (sym is ∙ e)) good, refl)), (λ e. no (sym other ∙ e)))
 
 several_keeps : (id : Text) (i : ℕ) → IsFree id → Keeps RowsFit (with_index i (filled (several id)))
 several_keeps id i free again [] rows none fit = absurd cc
 several_keeps id i free again (v ∷ vs) rows none fit =
     append_fits id AsWritten CommandLine (v ∷ vs) rows (any_fit id v vs free) fit
+
+files_keeps : (i : ℕ) → Keeps RowsFit (with_index i (filled files))
+files_keeps i again [] rows none fit = absurd cc
+files_keeps i again (v ∷ vs) rows none fit =
+    append_fits (codes "FILE") AsWritten CommandLine (v ∷ vs) rows (any_fit (codes "FILE") v vs (refl, refl)) fit
 
 patterns_keeps : (id : Text) (i : ℕ) → IsFree id → Keeps RowsFit (with_index i (filled (patterns id)))
 patterns_keeps id i free again [] rows none fit = absurd cc
@@ -65,9 +82,9 @@ test_keeps i again (v ∷ vs) rows none fit =
     set_fits (codes "test") AsWritten (v ∷ vs) rows (any_fit (codes "test") v vs (refl, refl)) fit
 
 -- a use of a flag keeps the rows fitting: its value is then "true"
-flag_keeps : (id : Text) (i : ℕ) → bytes_eq id (codes "jobs") ≡ false → Keeps RowsFit (with_index i (filled (flag id)))
+flag_keeps : (id : Text) (i : ℕ) → most_of id ≡ None → Keeps RowsFit (with_index i (filled (flag id)))
 flag_keeps id i other again [] rows none fit =
-    set_fits id AsWritten (codes "true" ∷ []) rows ((λ e. no (sym other ∙ e)), (λ e. (refl, refl))) fit
+    set_fits id AsWritten (codes "true" ∷ []) rows ((λ most e. not_numbered most (sym other ∙ e)), (λ e. (refl, refl))) fit
 flag_keeps id i other again (v ∷ vs) rows none fit =
     let range = no_faults (range_kinds 0 0 (length (v ∷ vs)))
     (or_else (repeat_fault again id rows) (values_kinds false parser.Bool (v ∷ vs))) none in
@@ -75,21 +92,48 @@ flag_keeps id i other again (v ∷ vs) rows none fit =
     absurd (omega (arith, nothing))
 
 -- the default of a flag, by which it isn't set, fits
-unset_fits : (id : Text) → bytes_eq id (codes "jobs") ≡ false → FitsValues id AsWritten (codes "false" ∷ [])
-unset_fits id other = ((λ e. no (sym other ∙ e)), (λ e. (refl, refl)))
+unset_fits : (id : Text) → most_of id ≡ None → FitsValues id AsWritten (codes "false" ∷ [])
+unset_fits id other = ((λ most e. not_numbered most (sym other ∙ e)), (λ e. (refl, refl)))
 
 jobs_keeps : (i : ℕ) → Keeps RowsFit (with_index i (filled jobs))
 jobs_keeps i again [] rows none fit = absurd cc
 jobs_keeps i again (v ∷ vs) rows none fit =
     let acts = no_faults (range_kinds 1 1 (length (v ∷ vs)))
-    (or_else (repeat_fault again (codes "jobs") rows) (values_kinds false numbers (v ∷ vs))) none in
-    let sets = no_faults (repeat_fault again (codes "jobs") rows) (values_kinds false numbers (v ∷ vs)) acts.1 in
-    let first = no_faults (value_kinds false numbers v) (values_kinds false numbers vs) sets.1 in
-    set_fits (codes "jobs") WithoutMinus (v ∷ vs) rows ((λ e. (accepted _ _ first.0, refl)), (λ e. no e)) fit
+    (or_else (repeat_fault again (codes "jobs") rows) (values_kinds false (numbers 64) (v ∷ vs))) none in
+    let sets = no_faults (repeat_fault again (codes "jobs") rows) (values_kinds false (numbers 64) (v ∷ vs)) acts.1 in
+    let first = no_faults (value_kinds false (numbers 64) v) (values_kinds false (numbers 64) vs) sets.1 in
+    set_fits (codes "jobs") WithoutMinus (v ∷ vs) rows (number_fits (codes "jobs") 64 v vs refl refl (accepted _ _ first.0)) fit
+
+own_jobs_keeps : (i : ℕ) → Keeps RowsFit (with_index i (filled own_jobs))
+own_jobs_keeps i again [] rows none fit = absurd cc
+own_jobs_keeps i again (v ∷ vs) rows none fit =
+    let acts = no_faults (range_kinds 1 1 (length (v ∷ vs)))
+    (or_else (repeat_fault again (codes "jobs") rows) (values_kinds false (numbers 64) (v ∷ vs))) none in
+    let sets = no_faults (repeat_fault again (codes "jobs") rows) (values_kinds false (numbers 64) (v ∷ vs)) acts.1 in
+    let first = no_faults (value_kinds false (numbers 64) v) (values_kinds false (numbers 64) vs) sets.1 in
+    set_fits (codes "jobs") WithoutMinus (v ∷ vs) rows (number_fits (codes "jobs") 64 v vs refl refl (accepted _ _ first.0)) fit
+
+expect_keeps : (i : ℕ) → Keeps RowsFit (with_index i (filled expect))
+expect_keeps i again [] rows none fit = absurd cc
+expect_keeps i again (v ∷ vs) rows none fit =
+    let acts = no_faults (range_kinds 1 1 (length (v ∷ vs)))
+    (or_else (repeat_fault again (codes "expect") rows) (values_kinds false (numbers 1048576) (v ∷ vs))) none in
+    let sets = no_faults (repeat_fault again (codes "expect") rows) (values_kinds false (numbers 1048576) (v ∷ vs)) acts.1 in
+    let first = no_faults (value_kinds false (numbers 1048576) v) (values_kinds false (numbers 1048576) vs) sets.1 in
+    set_fits (codes "expect") WithoutMinus (v ∷ vs) rows (number_fits (codes "expect") 1048576 v vs refl refl (accepted _ _ first.0)) fit
 
 -- the default of `--jobs` fits
 one_job_fits : FitsValues (codes "jobs") WithoutMinus (codes "1" ∷ [])
-one_job_fits = ((λ e. (refl, refl)), (λ e. no e))
+one_job_fits = number_fits (codes "jobs") 64 (codes "1") [] refl refl refl
+
+quiet_keeps : (i : ℕ) → Keeps RowsFit (with_index i (filled quiet))
+quiet_keeps i again [] rows none fit =
+    set_fits (codes "quiet") AsWritten (codes "true" ∷ []) rows ((λ most e. not_numbered most e), (λ e. (refl, refl))) fit
+quiet_keeps i again (v ∷ vs) rows none fit =
+    let range = no_faults (range_kinds 0 0 (length (v ∷ vs)))
+    (or_else (repeat_fault again (codes "quiet") rows) (values_kinds false parser.Bool (v ∷ vs))) none in
+    let nothing : 0 ≡ length (v ∷ vs) = eqb-true 0 (length (v ∷ vs)) (accepted _ _ range.0) in
+    absurd (omega (arith, nothing))
 
 help_keeps : (i : ℕ) → Keeps RowsFit (with_index i (filled help_rule))
 help_keeps i again values rows none fit =
@@ -307,6 +351,49 @@ check_leaves words none =
       some_left left (codes "FILE") (wanted _ _ _ left.none).0,
     )
 
+combine_leaves : Leaves (built_below combine) HasCombining
+combine_leaves words none =
+    let shown : EachKeeps RowsFit (with_index 2 (filled (flag (codes "list"))) ∷ with_index 2 (filled json) ∷ with_index 2 (filled quiet)
+    ∷ with_index 2 (filled (limit (codes "fail-under-lines"))) ∷ with_index 2 (filled (limit (codes "fail-under-functions")))
+    ∷ with_index 2 (filled (limit (codes "fail-under-branches"))) ∷ with_index 2 (filled help_rule) ∷ []) = (
+      flag_keeps (codes "list") 2 refl,
+      (
+        flag_keeps (codes "json") 2 refl,
+        (
+          quiet_keeps 2,
+          (
+            limit_keeps (codes "fail-under-lines") 2 (refl, refl),
+            (limit_keeps (codes "fail-under-functions") 2 (refl, refl), (limit_keeps (codes "fail-under-branches") 2 (refl, refl), (help_keeps 2, tt))),
+          ),
+        ),
+      ),
+    ) in
+    let each : EachKeeps RowsFit (built_below combine).rules = (
+      files_keeps 1,
+      (
+        own_jobs_keeps 2,
+        (
+          output_keeps 2,
+          (
+            flag_keeps (codes "strict") 2 refl,
+            (patterns_keeps (codes "include") 2 (refl, refl), (patterns_keeps (codes "exclude") 2 (refl, refl), (expect_keeps 2, shown))),
+          ),
+        ),
+      ),
+    ) in
+    let defaults : EachDefaultFits (built_below combine).rules =
+    (tt, (tt, (tt, (unset_fits (codes "strict") refl, (tt, (tt, (tt, (unset_fits (codes "list") refl, (unset_fits (codes "json") refl, (unset_fits (codes "quiet") refl, (tt, (tt, (tt, (tt, tt)))))))))))))) in
+    of_left _ (left_after (built_below combine) words each defaults none)
+  where
+    of_left : (rows : List Row) → Left (built_below combine) rows → HasCombining rows
+    of_left rows left = record {
+      jobs = has_number_if_any (codes "jobs") 64 rows refl left.fit;
+      expected = has_number_if_any (codes "expect") 1048576 rows refl left.fit;
+      strict = flag_left left (codes "strict") refl refl;
+      list = flag_left left (codes "list") refl refl;
+      json = flag_left left (codes "json") refl refl;
+    }
+
 abbrev SubFits : Shape → Type 0
 SubFits s = Leaves s (Fits s.name)
 
@@ -318,7 +405,8 @@ merge_fits words none = record {
   extract = λ e. no e;
   remove = λ e. no e;
   gcov = λ e. no e;
-  others = λ m s l x r g. no (sym m);
+  check = λ e. no e;
+  others = λ m s l x r g c. no (sym m);
 }
 
 summary_fits : SubFits (built_below summary)
@@ -329,7 +417,8 @@ summary_fits words none = record {
   extract = λ e. no e;
   remove = λ e. no e;
   gcov = λ e. no e;
-  others = λ m s l x r g. no (sym s);
+  check = λ e. no e;
+  others = λ m s l x r g c. no (sym s);
 }
 
 list_fits : SubFits (built_below list)
@@ -340,7 +429,8 @@ list_fits words none = record {
   extract = λ e. no e;
   remove = λ e. no e;
   gcov = λ e. no e;
-  others = λ m s l x r g. no (sym l);
+  check = λ e. no e;
+  others = λ m s l x r g c. no (sym l);
 }
 
 extract_fits : SubFits (built_below extract)
@@ -351,7 +441,8 @@ extract_fits words none = record {
   extract = λ e. filtering_leaves (codes "extract") words none;
   remove = λ e. no e;
   gcov = λ e. no e;
-  others = λ m s l x r g. no (sym x);
+  check = λ e. no e;
+  others = λ m s l x r g c. no (sym x);
 }
 
 remove_fits : SubFits (built_below remove)
@@ -362,7 +453,8 @@ remove_fits words none = record {
   extract = λ e. no e;
   remove = λ e. filtering_leaves (codes "remove") words none;
   gcov = λ e. no e;
-  others = λ m s l x r g. no (sym r);
+  check = λ e. no e;
+  others = λ m s l x r g c. no (sym r);
 }
 
 gcov_fits : SubFits (built_below gcov)
@@ -373,7 +465,8 @@ gcov_fits words none = record {
   extract = λ e. no e;
   remove = λ e. no e;
   gcov = λ e. gcov_leaves words none;
-  others = λ m s l x r g. no (sym g);
+  check = λ e. no e;
+  others = λ m s l x r g c. no (sym g);
 }
 
 check_fits : SubFits (built_below check)
@@ -384,7 +477,20 @@ check_fits words none = record {
   extract = λ e. no e;
   remove = λ e. no e;
   gcov = λ e. no e;
-  others = λ m s l x r g. (refl, check_leaves words none);
+  check = λ e. check_leaves words none;
+  others = λ m s l x r g c. no (sym c);
+}
+
+combine_fits : SubFits (built_below combine)
+combine_fits words none = record {
+  merge = λ e. no e;
+  summary = λ e. no e;
+  list = λ e. no e;
+  extract = λ e. no e;
+  remove = λ e. no e;
+  gcov = λ e. no e;
+  check = λ e. no e;
+  others = λ m s l x r g c. (refl, combine_leaves words none);
 }
 
 -- ---- the subcommand that the words name
@@ -427,7 +533,7 @@ built_fits a words name rows each none met =
     entered_fits a stop name rows each below.0 met
 
 each_sub : EachSub (built covcollect).subs
-each_sub = (merge_fits, (summary_fits, (list_fits, (extract_fits, (remove_fits, (gcov_fits, (check_fits, tt)))))))
+each_sub = (merge_fits, (summary_fits, (list_fits, (extract_fits, (remove_fits, (gcov_fits, (check_fits, (combine_fits, tt))))))))
 
 pub fits : (words : List Text) (name : Text) (rows : List Row) → fault_of covcollect words ≡ [] → subcommand_of covcollect words ≡ Some (name, rows) → Fits name rows
 fits words name rows none met = built_fits (built covcollect) (argument_words covcollect words) name rows each_sub none met

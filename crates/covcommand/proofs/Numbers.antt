@@ -1,5 +1,12 @@
 -- What clap's getters return: a number, words, a flag.
-use Rattle.std.proofs.Common.{◌≡◌, ◌∙◌, ◌≤◌, ◌⊎◌, inl, inr, ℕ, Bool, true, false, true≢false, codes, List, [], Some, None, Option, IsSome, refl, sym, ap, subst, unwrap_or, option_map, arith}
+use Rattle.std.specs.contracts.prelude.U32FromStr.TheImpl.{ghosts}
+use Rattle.clap.proofs.CallerReads.{signed_reads}
+use Rattle.clap.specs.Lexer.{without_minus}
+use Rattle.clap.specs.Matches.{ReadsOne}
+use Rattle.clap.specs.Walk.{Row, Text, one_of}
+use Rattle.covcommand.specs.Asked.{IsNumberIfAny, IsUpToIfAny}
+use Rattle.covcommand.specs.Found.{HasNumberIfAny}
+use Rattle.std.proofs.Common.{◌≡◌, ◌∙◌, ◌<◌, ◌≤◌, ◌^◌, ◌⊎◌, inl, inr, ℕ, Bool, true, false, true≢false, codes, List, [], Some, None, Option, IsSome, refl, sym, ap, subst, unwrap_or, option_map, arith}
 
 pub is_some_number : (r : Option ℕ) (n : ℕ) → r ≡ Some n → IsSome r
 is_some_number r n is = subst (λ (o : Option ℕ). IsSome o) (sym is) refl
@@ -25,3 +32,15 @@ pub is_not_set : (said : Option (List ℕ)) (flag : Bool) → (said ≡ Some (co
     → (said ≡ Some (codes "true") → flag ≡ true) → flag ≡ false → said ≡ Some (codes "false")
 is_not_set said flag (inl is) other off = absurd (true≢false (sym (other is) ∙ off))
 is_not_set said flag (inr is) other off = is
+
+-- the number of an option that may be left out, as clap's getter returns it
+pub told_if_any : (id : Text) (most : ℕ) (rows : List Row) (result : Option ℕ) → HasNumberIfAny id most rows → (one_of id rows ≡ None → result ≡ None)
+    → ((t : Text) → one_of id rows ≡ Some t → ReadsOne ghosts.from_str_gives t result) → most < 2 ^ 32
+    → IsNumberIfAny id rows result × IsUpToIfAny most result
+told_if_any id most rows result (inl none) absent value few =
+    subst (λ (r : Option ℕ). IsNumberIfAny id rows r × IsUpToIfAny most r) (sym (absent none)) (none, tt)
+told_if_any id most rows result (inr (text, is, signed)) absent value few =
+    let read = value (without_minus text) is in
+    let got = signed_reads _ ghosts.from_str_gives 32 1 most text result read (λ u x h. h.0) few signed in
+    let parsed = subst (λ (r : Option ℕ). ReadsOne ghosts.from_str_gives (without_minus text) r) got.1 read in
+    subst (λ (r : Option ℕ). IsNumberIfAny id rows r × IsUpToIfAny most r) (sym got.1) ((without_minus text, is, parsed.0.1), (got.2, got.3))

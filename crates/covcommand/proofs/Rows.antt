@@ -1,16 +1,17 @@
--- Rows that fit: each has at least one value. The first value of `--jobs` is a number from 1 to 64, and that of a flag is "true"
--- or "false".
-use Rattle.std.proofs.Common.{◌≡◌, ◌∙◌, ◌≤◌, ◌&&◌, ◌||◌, ◌⊎◌, inl, inr, not, Bool, pos, true, false, List, [], ◌∷◌, ◌++◌, length, Option, Some, None, cond, refl, sym, ap, subst, option_map, unwrap_or, option_and_then, ap₂, codes, arith}
+-- Rows that fit: each has at least one value. The first value of `--jobs` and of `--expect` is a number in its bounds, and that of a flag
+-- is "true" or "false".
+use Rattle.std.proofs.Common.{◌≡◌, ◌∙◌, ◌≤◌, ◌&&◌, ◌||◌, ◌⊎◌, inl, inr, not, ℕ, Bool, pos, true, false, List, [], ◌∷◌, ◌++◌, length, Option, Some, None, cond, refl, sym, ap, subst, option_map, unwrap_or, option_and_then, ap₂, codes, arith}
 use Rattle.std.specs.Prelude.{fold, slice_get}
 use Rattle.std.specs.Option.{option_map_or}
 use Rattle.std.specs.List.{find, list_any}
 use Rattle.std.specs.Str.{bytes_eq}
 use Rattle.std.proofs.lemmas.Bool.{and_parts}
 use Rattle.std.proofs.lemmas.Slice.Eq.{bytes_eq-Decides}
-use Rattle.clap.specs.Values.{read_as}
+use Rattle.clap.specs.Lexer.{without_minus}
+use Rattle.clap.specs.Values.{IsSignedIn, read_as}
 use Rattle.clap.specs.ValueTests.{accepts}
 use Rattle.clap.proofs.ValueTestLemmas.{accepts-Accepts}
-use Rattle.clap.specs.Walk.{Row, Rule, Text, at_row, default_rows, has_row, is_empty, more_values, reading_by, row_text, with_default, with_values, without}
+use Rattle.clap.specs.Walk.{Row, Rule, Text, at_row, default_rows, has_row, is_empty, more_values, one_of, reading_by, row_text, with_default, with_values, without}
 use Rattle.clap.specs.Takes.{is_given}
 use Rattle.clap.specs.Facts.{explicit_source}
 use Rattle.clap.specs.declared.builder.value_parser.Reading.{Reading}
@@ -19,19 +20,23 @@ use Rattle.clap.specs.declared.builder.value_parser.ValueParser.{ValueParser}
 use Rattle.clap.specs.declared.builder.value_parser.ValueParser.TheVariants as parser
 use Rattle.clap.specs.declared.parser.matches.ValueSource.{ValueSource}
 use Rattle.clap.specs.declared.parser.matches.ValueSource.TheVariants.{CommandLine, DefaultValue}
-use Rattle.covcommand.specs.Found.{HasFlag, HasJobs, HasSome, HasTest}
+use Rattle.covcommand.specs.Found.{HasFlag, HasJobs, HasNumberIfAny, HasSome, HasTest}
 
-abbrev pub numbers : ValueParser
-numbers = parser.Signed (pos 1) (pos 64)
+abbrev pub numbers : (most : ℕ) → ValueParser
+numbers most = parser.Signed (pos 1) (pos most)
+
+-- the greatest number that the option takes, if it takes a number
+abbrev pub most_of : Text → Option ℕ
+most_of id = cond (bytes_eq id (codes "jobs")) (Some 64) (cond (bytes_eq id (codes "expect")) (Some 1048576) None)
 
 abbrev pub is_flag : Text → Bool
 is_flag id = bytes_eq id (codes "gcov") || bytes_eq id (codes "lcov2") || bytes_eq id (codes "json") || bytes_eq id (codes "strict")
-    || bytes_eq id (codes "large")
+    || bytes_eq id (codes "large") || bytes_eq id (codes "list") || bytes_eq id (codes "quiet")
 
 -- the argument has a value, and its first value fits, as does the way in which the values are read
 abbrev pub FitsValues : Text → Reading → List Text → Type 0
 FitsValues id how [] = ⊥
-FitsValues id how (v ∷ vs) = (bytes_eq id (codes "jobs") ≡ true → (accepts false numbers v ≡ true) × (how ≡ WithoutMinus))
+FitsValues id how (v ∷ vs) = ((most : ℕ) → most_of id ≡ Some most → (accepts false (numbers most) v ≡ true) × (how ≡ WithoutMinus))
     × (is_flag id ≡ true → (accepts false parser.Bool v ≡ true) × (how ≡ AsWritten))
 
 abbrev pub RowFits : Row → Type 0
@@ -139,18 +144,32 @@ has_test rows row =
     let first = first_there row.0.id row.0.reading row.0.values row.3 in
     (first.0, ap (λ (o : Option Row). option_and_then (λ r. slice_get r.values 0) o) row.1 ∙ first.1)
 
-number_there : (how : Reading) (values : List Text) → FitsValues (codes "jobs") how values
-    → (text : Text) × (slice_get values 0 ≡ Some text) × (accepts false numbers text ≡ true) × (how ≡ WithoutMinus)
-number_there how [] fits = absurd fits
-number_there how (v ∷ vs) fits = (v, refl, (fits.0 refl).0, (fits.0 refl).1)
+number_there : (id : Text) (most : ℕ) (how : Reading) (values : List Text) → most_of id ≡ Some most → FitsValues id how values
+    → (text : Text) × (slice_get values 0 ≡ Some text) × (accepts false (numbers most) text ≡ true) × (how ≡ WithoutMinus)
+number_there id most how [] is fits = absurd fits
+number_there id most how (v ∷ vs) is fits = (v, refl, (fits.0 most is).0, (fits.0 most is).1)
 
-pub has_jobs : (rows : List Row) → RowOf (codes "jobs") rows → HasJobs rows
-has_jobs rows row =
-    let same : row.0.id ≡ codes "jobs" = (bytes_eq-Decides row.0.id (codes "jobs")).0 row.2 in
-    let number = number_there row.0.reading row.0.values (subst (λ (id : Text). FitsValues id row.0.reading row.0.values) same row.3) in
+has_number : (id : Text) (most : ℕ) (rows : List Row) → most_of id ≡ Some most → RowOf id rows
+    → (text : Text) × (one_of id rows ≡ Some (without_minus text)) × IsSignedIn (pos 1) (pos most) text
+has_number id most rows is row =
+    let same : row.0.id ≡ id = (bytes_eq-Decides row.0.id id).0 row.2 in
+    let number = number_there id most row.0.reading row.0.values is (subst (λ (id : Text). FitsValues id row.0.reading row.0.values) same row.3) in
     let text = ap (λ (o : Option Row). option_and_then row_text o) row.1
     ∙ ap₂ (λ how o. option_map (read_as how) o) number.3 number.1 in
-    (number.0, text, accepts-Accepts false numbers number.0 number.2)
+    (number.0, text, accepts-Accepts false (numbers most) number.0 number.2)
+
+pub has_jobs : (rows : List Row) → RowOf (codes "jobs") rows → HasJobs rows
+has_jobs rows row = has_number (codes "jobs") 64 rows refl row
+
+number_at : (id : Text) (most : ℕ) (rows : List Row) (o : Option Row) → find (λ y. bytes_eq y.id id) rows ≡ o → most_of id ≡ Some most → RowsFit rows → HasNumberIfAny id most rows
+number_at id most rows None found is fit = inl (ap (λ (o : Option Row). option_and_then row_text o) found)
+number_at id most rows (Some r) found is fit =
+    let fits = found_fits id rows r fit found in
+    inr (has_number id most rows is (r, found, fits.0, fits.1))
+
+-- the option's number, if it is given
+pub has_number_if_any : (id : Text) (most : ℕ) (rows : List Row) → most_of id ≡ Some most → RowsFit rows → HasNumberIfAny id most rows
+has_number_if_any id most rows is fit = number_at id most rows (find (λ y. bytes_eq y.id id) rows) refl is fit
 
 flag_there : (id : Text) (how : Reading) (values : List Text) → is_flag id ≡ true → FitsValues id how values
     → (text : Text) × (slice_get values 0 ≡ Some text) × (accepts false parser.Bool text ≡ true) × (how ≡ AsWritten)

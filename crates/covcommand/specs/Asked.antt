@@ -1,14 +1,17 @@
 -- What a call asks for, given the subcommand that clap reads from its words and what clap found for that subcommand's arguments.
-use Rattle.std.specs.Prelude.{◌≡◌, ◌≤◌, ◌++◌, ℕ, List, [], Option, Some, None, String, codes, length, option_map, unwrap_or}
+use Rattle.std.specs.Prelude.{◌≡◌, ◌≤◌, ◌++◌, ℕ, List, [], Option, Some, None, String, codes, length, option_map, unwrap_or, IfSome}
 use Rattle.std.specs.Option.{option_map_or}
 use Rattle.std.specs.Str.Parse.{digits_value, without_leading_plus}
 use Rattle.std.specs.String.{string_bytes}
 use Rattle.std.specs.declared.alloc.Global.{Global}
 use Rattle.clap.specs.Walk.{Row, Text, all_of, first_of, one_of}
 use Rattle.covcommand.specs.declared.asked.Asked.{Asked}
+use Rattle.covcommand.specs.declared.asked.CombineOptions.{CombineOptions}
 use Rattle.covcommand.specs.declared.asked.Command.{Command}
-use Rattle.covcommand.specs.declared.asked.Command.TheVariants.{Session, Merge, Summary, Extract, Remove, Gcov, Check}
+use Rattle.covcommand.specs.declared.asked.Command.TheVariants.{Session, Merge, Summary, Extract, Remove, Gcov, Check, Combine}
 use Rattle.covcommand.specs.declared.asked.Command.TheVariants as commands
+use Rattle.covcommand.specs.declared.asked.Overview.{Overview}
+use Rattle.covcommand.specs.declared.asked.Overview.TheVariants as overviews
 use Rattle.covcommand.specs.declared.asked.SourceFilter.{SourceFilter}
 use Rattle.covcommand.specs.declared.asked.Strictness.{Strictness}
 use Rattle.covcommand.specs.declared.asked.Strictness.TheVariants.{Lenient, Strict}
@@ -63,6 +66,26 @@ abbrev pub AreLimitsOf : List Row → Limits → Type 0
 AreLimitsOf rows limits = IsLimitOf (codes "fail-under-lines") rows limits.lines
     × IsLimitOf (codes "fail-under-functions") rows limits.functions × IsLimitOf (codes "fail-under-branches") rows limits.branches
 
+-- the number that clap found for the option, and `None` if the option isn't given
+abbrev pub IsNumberIfAny : Text → List Row → Option ℕ → Type 0
+IsNumberIfAny id rows None = one_of id rows ≡ None
+IsNumberIfAny id rows (Some number) = (text : Text) × (one_of id rows ≡ Some text) × (number ≡ digits_value 10 (without_leading_plus text))
+
+-- each source file is listed if clap sets the flag `--list`, and if it doesn't, all are summed up
+abbrev pub IsOverviewOf : List Row → Overview → Type 0
+IsOverviewOf rows overviews.Summary = one_of (codes "list") rows ≡ Some (codes "false")
+IsOverviewOf rows overviews.List = one_of (codes "list") rows ≡ Some (codes "true")
+
+-- what the rows of `combine` ask for. `--quiet` changes nothing
+pub record AsksToCombine (rows : List Row) (options : CombineOptions) : Type 0 where
+  pub jobs : IsNumberIfAny (codes "jobs") rows options.jobs
+  pub expected : IsNumberIfAny (codes "expect") rows options.expected
+  pub filter : IsFilterOf rows options.filter
+  pub overview : IsOverviewOf rows options.overview
+  pub form : IsFormOf rows options.form
+  pub limits : AreLimitsOf rows options.limits
+  pub names : options.names ≡ values_of (codes "FILE") rows
+
 -- a call asks for this command: `met` is the subcommand that clap reads from its words (`None` for a session), with a row for
 -- each of the subcommand's arguments, and the command has what the rows say
 abbrev pub AsksFor : Option (Text × List Row) → Command → Type 0
@@ -84,6 +107,7 @@ AsksFor met (Gcov test names) = (rows : List Row) × (met ≡ Some (codes "gcov"
     × (names ≡ values_of (codes "FILE") rows)
 AsksFor met (Check how jobs names) = (rows : List Row) × (met ≡ Some (codes "check", rows))
     × IsFormatOf rows how × IsNumberOf rows jobs × (names ≡ values_of (codes "FILE") rows)
+AsksFor met (Combine options) = (rows : List Row) × (met ≡ Some (codes "combine", rows)) × AsksToCombine rows options
 
 -- a call is strict if clap sets the flag `--strict`, and lenient if it doesn't
 abbrev pub IsStrictnessOf : List Row → Strictness → Type 0
@@ -100,6 +124,7 @@ HasStrictness rows (Extract version names) strictness = IsStrictnessOf rows stri
 HasStrictness rows (Remove version names) strictness = IsStrictnessOf rows strictness
 HasStrictness rows (Gcov test names) strictness = strictness ≡ Lenient
 HasStrictness rows (Check how jobs names) strictness = IsStrictnessOf rows strictness
+HasStrictness rows (Combine options) strictness = IsStrictnessOf rows strictness
 
 -- a call reads tracefiles above the limit if clap sets the flag `--large`, and refuses them if it doesn't
 abbrev pub IsSizeOf : List Row → TextSize → Type 0
@@ -107,7 +132,7 @@ IsSizeOf rows Limited = one_of (codes "large") rows ≡ Some (codes "false")
 IsSizeOf rows Large = one_of (codes "large") rows ≡ Some (codes "true")
 
 -- whether the call of this command reads tracefiles above the limit, by the flag `--large`. A session and `gcov`, which have no such
--- flag, are limited
+-- flag, are limited, and `combine`, which has none, isn't
 abbrev pub HasSize : List Row → Command → TextSize → Type 0
 HasSize rows Session size = size ≡ Limited
 HasSize rows (Merge version jobs filter names) size = IsSizeOf rows size
@@ -117,6 +142,7 @@ HasSize rows (Extract version names) size = IsSizeOf rows size
 HasSize rows (Remove version names) size = IsSizeOf rows size
 HasSize rows (Gcov test names) size = size ≡ Limited
 HasSize rows (Check how jobs names) size = IsSizeOf rows size
+HasSize rows (Combine options) size = size ≡ Large
 
 -- the word that clap found for `--output`, as it is, and `None` if the option isn't given
 abbrev pub IsOutputOf : List Row → Option (String Global) → Type 0
@@ -133,6 +159,7 @@ GoesTo rows (Extract version names) output = IsOutputOf rows output
 GoesTo rows (Remove version names) output = IsOutputOf rows output
 GoesTo rows (Gcov test names) output = IsOutputOf rows output
 GoesTo rows (Check how jobs names) output = output ≡ None
+GoesTo rows (Combine options) output = IsOutputOf rows output
 
 -- the rows of the subcommand that clap reads from the words of a call, and none for a session
 abbrev pub rows_met : Option (Text × List Row) → List Row
@@ -143,8 +170,12 @@ abbrev pub AsksForAll : Option (Text × List Row) → Asked → Type 0
 AsksForAll met asked = AsksFor met asked.command × HasStrictness (rows_met met) asked.command asked.strictness
     × HasSize (rows_met met) asked.command asked.size × GoesTo (rows_met met) asked.command asked.output
 
--- `merge`, `summary`, `list` and `check` have 1 to 64 jobs. Each subcommand has at least one name, and `extract` and `remove` have at
--- least two
+-- a number that is given lies between 1 and this one
+abbrev pub IsUpToIfAny : (most : ℕ) → Option ℕ → Type 0
+IsUpToIfAny most number = IfSome number (λ n. (1 ≤ n) × (n ≤ most))
+
+-- `merge`, `summary`, `list` and `check` have 1 to 64 jobs, and `combine` if it names a number. Each subcommand but `combine` has at least
+-- one name, and `extract` and `remove` have at least two
 abbrev pub IsInBounds : Command → Type 0
 IsInBounds Session = Unit {0}
 IsInBounds (Merge version jobs filter names) = (1 ≤ jobs) × (jobs ≤ 64) × (1 ≤ length names)
@@ -154,3 +185,4 @@ IsInBounds (Extract version names) = 2 ≤ length names
 IsInBounds (Remove version names) = 2 ≤ length names
 IsInBounds (Gcov test names) = 1 ≤ length names
 IsInBounds (Check how jobs names) = (1 ≤ jobs) × (jobs ≤ 64) × (1 ≤ length names)
+IsInBounds (Combine options) = IsUpToIfAny 64 options.jobs × IsUpToIfAny 1048576 options.expected

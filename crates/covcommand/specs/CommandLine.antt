@@ -126,11 +126,55 @@ abbrev pub check : App
 check = with_rule (with_rule (with_rule (with_rule (with_rule (with_rule (new_app (codes "check")) (several (codes "FILE"))) jobs)
     annotated) lcov2) strict) large
 
+-- files, of which there may be none
+abbrev pub files : Rule
+files = record (new_rule (codes "FILE")) {
+  range = Some (record { start_inclusive = 1; end_inclusive = usize_max });
+  action = Some Append;
+}
+
+-- `--jobs N` or `-j N`, a number from 1 to 64, without one if it isn't given
+abbrev pub own_jobs : Rule
+own_jobs = record (new_rule (codes "jobs")) {
+  long = Some (codes "jobs");
+  short = Some 106;
+  value_names = 1;
+  action = Some Set;
+  parser = Some (parser.Signed (pos 1) (pos 64));
+}
+
+-- `--expect N`, a number from 1 to 1,048,576
+abbrev pub expect : Rule
+expect = record (new_rule (codes "expect")) {
+  long = Some (codes "expect");
+  value_names = 1;
+  action = Some Set;
+  parser = Some (parser.Signed (pos 1) (pos 1048576));
+}
+
+-- `--quiet` or `-q`. 113 is the code of `q`
+abbrev pub quiet : Rule
+quiet = record (flag (codes "quiet")) { short = Some 113 }
+
+-- `combine`: files, and how they are read
+abbrev pub reading : App
+reading = with_rule (with_rule (with_rule (with_rule (with_rule (with_rule (with_rule (new_app (codes "combine"))
+    files) own_jobs) output) strict) (patterns (codes "include"))) (patterns (codes "exclude"))) expect
+
+-- and what is shown
+abbrev pub showing : App
+showing = with_rule (with_rule (with_rule reading (flag (codes "list"))) json) quiet
+
+-- and limits
+abbrev pub combine : App
+combine = with_rule (with_rule (with_rule showing (limit (codes "fail-under-lines")))
+    (limit (codes "fail-under-functions"))) (limit (codes "fail-under-branches"))
+
 -- the program, which has a version and no subcommand `help`
 abbrev pub program : App
 program = on_top (λ s. record s { disable_help_subcommand = true; has_version = true }) (new_app (codes "covcollect"))
 
 -- the program with its subcommands
 abbrev pub covcollect : App
-covcollect = with_subcommand (with_subcommand (with_subcommand (with_subcommand (with_subcommand (with_subcommand (with_subcommand program
-    merge.top) summary.top) list.top) extract.top) remove.top) gcov.top) check.top
+covcollect = with_subcommand (with_subcommand (with_subcommand (with_subcommand (with_subcommand (with_subcommand (with_subcommand (with_subcommand program
+    merge.top) summary.top) list.top) extract.top) remove.top) gcov.top) check.top) combine.top

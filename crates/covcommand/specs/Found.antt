@@ -1,12 +1,12 @@
 -- Definitions for private steps: what clap found for the arguments of a subcommand.
-use Rattle.std.specs.Prelude.{◌≡◌, ◌⊎◌, ◌≤◌, List, Some, true, false, codes, length, pos}
+use Rattle.std.specs.Prelude.{◌≡◌, ◌⊎◌, ◌≤◌, ℕ, List, Some, None, true, false, codes, length, pos}
 use Rattle.std.specs.Str.{bytes_eq}
 use Rattle.clap.specs.Lexer.{without_minus}
 use Rattle.clap.specs.Values.{IsSignedIn}
 use Rattle.clap.specs.Walk.{Row, Text, first_of, one_of}
 use Rattle.covcommand.specs.Asked.{values_of}
 use Rattle.covcommand.specs.declared.asked.Command.{Command}
-use Rattle.covcommand.specs.declared.asked.Command.TheVariants.{Session, Merge, Summary, Extract, Remove, Gcov, Check}
+use Rattle.covcommand.specs.declared.asked.Command.TheVariants.{Session, Merge, Summary, Extract, Remove, Gcov, Check, Combine}
 use Rattle.covcommand.specs.declared.asked.Command.TheVariants as commands
 
 -- clap found at least one word for the argument
@@ -45,6 +45,19 @@ HasFilter rows = HasSome (codes "TRACEFILE") rows × HasSome (codes "PATTERN") r
 abbrev pub HasFiltering : List Row → Type 0
 HasFiltering rows = HasFlags rows × HasFilter rows
 
+-- clap found no word for the option, or a number from 1 to `most`
+abbrev pub HasNumberIfAny : Text → (most : ℕ) → List Row → Type 0
+HasNumberIfAny id most rows =
+    (one_of id rows ≡ None) ⊎ ((text : Text) × (one_of id rows ≡ Some (without_minus text)) × IsSignedIn (pos 1) (pos most) text)
+
+-- clap found what `combine` requires. It requires no file
+pub record HasCombining (rows : List Row) : Type 0 where
+  pub jobs : HasNumberIfAny (codes "jobs") 64 rows
+  pub expected : HasNumberIfAny (codes "expect") 1048576 rows
+  pub strict : HasFlag (codes "strict") rows
+  pub list : HasFlag (codes "list") rows
+  pub json : HasFlag (codes "json") rows
+
 -- clap found what `check` requires
 abbrev pub HasCheck : List Row → Type 0
 HasCheck rows = HasFlag (codes "gcov") rows × HasFlags rows × HasJobs rows × HasSome (codes "FILE") rows
@@ -57,12 +70,14 @@ pub record Fits (name : Text) (rows : List Row) : Type 0 where
   pub extract : bytes_eq name (codes "extract") ≡ true → HasFiltering rows
   pub remove : bytes_eq name (codes "remove") ≡ true → HasFiltering rows
   pub gcov : bytes_eq name (codes "gcov") ≡ true → HasTest rows × HasSome (codes "FILE") rows
+  pub check : bytes_eq name (codes "check") ≡ true → HasCheck rows
   pub others : bytes_eq name (codes "merge") ≡ false → bytes_eq name (codes "summary") ≡ false
       → bytes_eq name (codes "list") ≡ false → bytes_eq name (codes "extract") ≡ false
       → bytes_eq name (codes "remove") ≡ false → bytes_eq name (codes "gcov") ≡ false
-      → (name ≡ codes "check") × HasCheck rows
+      → bytes_eq name (codes "check") ≡ false → (name ≡ codes "combine") × HasCombining rows
 
--- clap says of the flags of all subcommands but `gcov` whether they are set, if the command has them
+-- clap says of the flags of all subcommands but `gcov` whether they are set, if the command has them. `combine` has `--strict` alone of
+-- these
 abbrev pub TellsFlags : List Row → Command → Type 0
 TellsFlags rows Session = Unit {0}
 TellsFlags rows (Merge version jobs filter names) = HasFlags rows
@@ -72,3 +87,4 @@ TellsFlags rows (Extract version names) = HasFlags rows
 TellsFlags rows (Remove version names) = HasFlags rows
 TellsFlags rows (Gcov test names) = Unit {0}
 TellsFlags rows (Check how jobs names) = HasFlags rows
+TellsFlags rows (Combine options) = HasFlag (codes "strict") rows

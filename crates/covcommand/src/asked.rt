@@ -90,6 +90,36 @@ pub enum Command {
         /// The files' paths, at least one.
         names: Names,
     },
+    /// `combine`: the merged tracefile of the files of many jobs, and an overview of it.
+    Combine(CombineOptions),
+}
+
+/// The options of `combine`.
+#[derive(Drop)]
+pub struct CombineOptions {
+    /// How many jobs read at once, from 1 to 64, or `None` without the option.
+    pub jobs: Option<u32>,
+    /// How many files have to be read, from 1 to 1,048,576, or `None` without the option.
+    pub expected: Option<u32>,
+    /// Which source files are printed and counted.
+    pub filter: SourceFilter,
+    /// What is shown of the merged tracefile if it goes into a file.
+    pub overview: Overview,
+    /// How the overview's totals are printed.
+    pub form: TotalsForm,
+    /// The thresholds.
+    pub limits: Limits,
+    /// The files' paths, which may be none.
+    pub names: Names,
+}
+
+/// What is shown of a merged tracefile.
+#[derive(Clone, Copy)]
+pub enum Overview {
+    /// Without `--list`: the totals of all chosen source files, as `summary` prints them.
+    Summary,
+    /// With `--list`: the totals of each chosen source file and of all, as `list` prints them.
+    List,
 }
 
 /// The choice of source files, by shell patterns for their paths. Each list has the patterns of one option in order, and is empty
@@ -117,7 +147,8 @@ pub enum Strictness {
 pub enum TextSize {
     /// Without `--large`: a file above 64 MiB is rejected. A session and `gcov`, which lack this flag, are always limited.
     Limited,
-    /// With `--large`: a tracefile above 64 MiB is read in chunks of whole sections.
+    /// With `--large`: a tracefile above 64 MiB is read in chunks of whole sections. `combine`, which lacks this flag, always reads
+    /// so.
     Large,
 }
 

@@ -6,6 +6,7 @@ ghost use Rattle.clap.specs.Simple.{App, app_of, with_rule, with_subcommand};
 ghost use Rattle.covcommand.specs.CommandLine as line;
 ghost use Rattle.covcommand.specs.Built.{HasNoGlobals, IsRule};
 
+use crate::combining::combine;
 use crate::help;
 use clap::{Arg, ArgAction, Command, value_parser};
 use std::alloc::{AllocError, Global};
@@ -20,7 +21,8 @@ pub(crate) fn described<'a>(alloc: Global) -> Result<Command<'a>, AllocError>
     let extracting = with(listing, extract(alloc));
     let removing = with(extracting, remove(alloc));
     let converting = with(removing, gcov(alloc));
-    with(converting, check(alloc))
+    let checking = with(converting, check(alloc));
+    with(checking, combine(alloc))
 }
 
 /// Adds a subcommand to `command`. It takes both as results, so that a description is a chain of moves without an early return: each
@@ -36,7 +38,7 @@ fn with<'a>(
 }
 
 /// Adds an argument to `command`, which it takes as a result, as `with` does.
-fn taking<'a>(
+pub(crate) fn taking<'a>(
     command: Result<Command<'a>, AllocError>,
     arg: Arg<'a>,
 ) -> Result<Command<'a>, AllocError>
@@ -47,7 +49,7 @@ fn taking<'a>(
 }
 
 /// Adds help texts to `command`: what it does, and how to call it.
-fn explained<'a>(
+pub(crate) fn explained<'a>(
     command: Result<Command<'a>, AllocError>,
     about: &'a str,
     end: &'a str,
@@ -200,7 +202,7 @@ fn jobs<'a>(alloc: Global) -> Arg<'a>
 }
 
 /// `--output FILE` or `-o FILE`, the output file.
-fn output<'a>(alloc: Global) -> Arg<'a>
+pub(crate) fn output<'a>(alloc: Global) -> Arg<'a>
     ensures { IsRule line.output result }
 {
     Arg::new(alloc, "output")
@@ -224,7 +226,7 @@ fn test<'a>(alloc: Global) -> Arg<'a>
 }
 
 /// A repeatable option for a pattern.
-fn patterns<'a>(alloc: Global, id: &'a str, help: &'a str) -> Arg<'a>
+pub(crate) fn patterns<'a>(alloc: Global, id: &'a str, help: &'a str) -> Arg<'a>
     ensures { IsRule (line.patterns id.entry.now) result }
 {
     Arg::new(alloc, id)
@@ -235,7 +237,7 @@ fn patterns<'a>(alloc: Global, id: &'a str, help: &'a str) -> Arg<'a>
 }
 
 /// An option for a threshold, allowed at most once.
-fn limit<'a>(alloc: Global, id: &'a str, help: &'a str) -> Arg<'a>
+pub(crate) fn limit<'a>(alloc: Global, id: &'a str, help: &'a str) -> Arg<'a>
     ensures { IsRule (line.limit id.entry.now) result }
 {
     Arg::new(alloc, id)
@@ -260,7 +262,7 @@ fn lcov2<'a>(alloc: Global) -> Arg<'a>
 }
 
 /// The flag `--strict`: files and patterns that look wrong are rejected.
-fn strict<'a>(alloc: Global, help: &'a str) -> Arg<'a>
+pub(crate) fn strict<'a>(alloc: Global, help: &'a str) -> Arg<'a>
     ensures { IsRule line.strict result }
 {
     flag(alloc, "strict", help)
@@ -274,14 +276,14 @@ fn large<'a>(alloc: Global) -> Arg<'a>
 }
 
 /// The flag `--json`: totals are printed as JSON.
-fn json<'a>(alloc: Global) -> Arg<'a>
+pub(crate) fn json<'a>(alloc: Global) -> Arg<'a>
     ensures { IsRule line.json result }
 {
     flag(alloc, "json", help::JSON)
 }
 
 /// A flag without a value.
-fn flag<'a>(alloc: Global, id: &'a str, help: &'a str) -> Arg<'a>
+pub(crate) fn flag<'a>(alloc: Global, id: &'a str, help: &'a str) -> Arg<'a>
     ensures { IsRule (line.flag id.entry.now) result }
 {
     Arg::new(alloc, id)

@@ -28,8 +28,9 @@ Exit status:
   2  the call is wrong: its words, a pattern, a limit or the name of a test
   3  memory ran out, or the history is full
   4  a file was refused, or checksums clash; nothing is printed, but by check
-  5  check found a file without items, or --strict what it refuses
-  6  summary found less hit than --fail-under-.. asks for, or nothing to hit";
+  5  a file has no items (check, combine), too few files were read (combine), or
+     --strict found what it refuses
+  6  less is hit than --fail-under-.. asks for, or there is nothing to hit";
 
 /// What `merge` does.
 pub(crate) const MERGE: &str = "Merges tracefiles: counts add up by test and file (lcov -a)";
@@ -145,6 +146,23 @@ With both flags the files are what gcov wrote.
 The status is 1 where a file can't be read, else 4 where one is refused, and
 else 5 where one has no items or, with --strict, odd or skipped lines.";
 
+/// What `combine` does.
+pub(crate) const COMBINE: &str = "Merges the tracefiles of many jobs, and tells how much is hit";
+
+/// How to call `combine`.
+pub(crate) const COMBINE_END: &str = "\
+Reads tracefiles of LCOV 1 and 2, of any length. What is no tracefile is refused
+with status 5, and all such files are named. Lines that don't fit get a warning.
+By -o the tracefile goes into a file, and the summary is printed:
+  covcollect combine -o all.info jobs/*.info
+and to end with status 5 unless 500 files were read
+  covcollect combine --expect 500 -o all.info jobs/*.info
+and to leave out source files (extract --help tells of patterns)
+  covcollect combine --exclude '/usr/*' -o all.info jobs/*.info
+and to end with status 6 where too little is hit
+  covcollect combine --fail-under-lines 80 -o all.info jobs/*.info
+Without -o the tracefile is printed.";
+
 /// The help of an argument for tracefiles.
 pub(crate) const TRACEFILES: &str = "Tracefiles, read in this order";
 
@@ -163,6 +181,11 @@ pub(crate) const CHECKED: &str = "Tracefiles, looked at in this order";
 /// The help of `--jobs`.
 pub(crate) const JOBS: &str = "Files read at once, from 1 to 64";
 
+/// The help of `--jobs` for `combine`.
+pub(crate) const OWN_JOBS: &str = "\
+Files read at once, from 1 to 64; by itself
+as many as processors, at most 16";
+
 /// The help of `--output`.
 pub(crate) const OUTPUT: &str = "Write to FILE, which may be one of the inputs";
 
@@ -180,6 +203,11 @@ lines; unmatched patterns";
 /// The help of `--strict` for `check`.
 pub(crate) const STRICT_CHECK: &str = "Fail for odd or skipped lines too";
 
+/// The help of `--strict` for `combine`.
+pub(crate) const STRICT_COMBINE: &str = "\
+Refuse what gets a warning, and files with
+unknown keys";
+
 /// The help of `--large`.
 pub(crate) const LARGE: &str = "Read tracefiles above 64 MiB in pieces";
 
@@ -191,6 +219,15 @@ pub(crate) const EXCLUDE: &str = "No source files that match; may be repeated";
 
 /// The help of `--json`.
 pub(crate) const JSON: &str = "Print JSON";
+
+/// The help of `--expect`.
+pub(crate) const EXPECT: &str = "Status 5 unless N files are read";
+
+/// The help of `--list`.
+pub(crate) const SHOW_LIST: &str = "List each source file, with -o";
+
+/// The help of `--quiet`.
+pub(crate) const QUIET: &str = "Show no progress (today none is shown)";
 
 /// The help of `--fail-under-lines`.
 pub(crate) const FAIL_UNDER_LINES: &str = "Status 6 if less than N% of lines are hit";

@@ -8,8 +8,9 @@ ghost use Rattle.clap.specs.declared.error.kind.ErrorKind.TheVariants as kind;
 ghost use Rattle.clap.specs.Words.{subcommand_of, first_of};
 ghost use Rattle.covcommand.specs.Asked.{AsksFor, AsksForAll, IsSizeOf, IsStrictnessOf, rows_met};
 ghost use Rattle.covcommand.specs.CommandLine.{covcollect};
-ghost use Rattle.covcommand.specs.declared.asked.Command.TheVariants.{Check, Extract, Gcov, Merge, Remove, Session, Summary};
+ghost use Rattle.covcommand.specs.declared.asked.Command.TheVariants.{Check, Combine, Extract, Gcov, Merge, Remove, Session, Summary};
 ghost use Rattle.covcommand.specs.declared.asked.Command.TheVariants as commands;
+ghost use Rattle.covcommand.specs.declared.asked.Overview.TheVariants as overviews;
 ghost use Rattle.covcommand.specs.declared.asked.Strictness.TheVariants.{Lenient, Strict};
 ghost use Rattle.covcommand.specs.declared.asked.TextSize.TheVariants.{Limited, Large};
 ghost use Rattle.covcommand.specs.declared.asked.TotalsForm.TheVariants.{Words, Json};
@@ -190,6 +191,20 @@ pub fn large_by_their_words()
         (record { command = Session; strictness = Lenient; size = Limited; output = None }) }
     ensures name { AsksForAll (subcommand_of covcollect (codes "covcollect" ∷ codes "merge" ∷ codes "--" ∷ codes "--large" ∷ []))
         (record { command = Merge One 1 (record { includes = []; excludes = [] }) (codes "--large" ∷ []); strictness = Lenient; size = Limited; output = None }) }
+{}
+
+/// What `combine` asks for: numbers that are given, patterns, the overview, thresholds and files, of which there may be none. `--quiet`
+/// changes nothing. Its size limit is always `Large`.
+pub fn combines_by_their_words()
+    ensures some { (output : Option (String Global)) → Some (codes "out") ≡ option_map string_bytes output
+        → AsksForAll (subcommand_of covcollect (codes "covcollect" ∷ codes "combine" ∷ codes "-o" ∷ codes "out" ∷ codes "-j" ∷ codes "3" ∷ codes "--expect" ∷ codes "2" ∷ codes "--strict" ∷ codes "--list" ∷ codes "-q" ∷ codes "f" ∷ codes "g" ∷ []))
+        (record { command = Combine (record { jobs = Some 3; expected = Some 2; filter = record { includes = []; excludes = [] }; overview = overviews.List; form = Words; limits = record { lines = None; functions = None; branches = None }; names = codes "f" ∷ codes "g" ∷ [] }); strictness = Strict; size = Large; output = output }) }
+    ensures few { AsksForAll (subcommand_of covcollect (codes "covcollect" ∷ codes "combine" ∷ codes "--json" ∷ codes "--exclude" ∷ codes "x" ∷ codes "--fail-under-lines" ∷ codes "80" ∷ []))
+        (record { command = Combine (record { jobs = None; expected = None; filter = record { includes = []; excludes = codes "x" ∷ [] }; overview = overviews.Summary; form = Json; limits = record { lines = Some (codes "80"); functions = None; branches = None }; names = [] }); strictness = Lenient; size = Large; output = None }) }
+    ensures none { takes covcollect (codes "covcollect" ∷ codes "combine" ∷ []) ≡ true }
+    ensures no_jobs { fault_of covcollect (codes "covcollect" ∷ codes "combine" ∷ codes "-j" ∷ codes "0" ∷ codes "f" ∷ []) ≡ kind.ValueValidation ∷ [] }
+    ensures no_files { fault_of covcollect (codes "covcollect" ∷ codes "combine" ∷ codes "--expect" ∷ codes "0" ∷ codes "f" ∷ []) ≡ kind.ValueValidation ∷ [] }
+    ensures lcov2 { fault_of covcollect (codes "covcollect" ∷ codes "combine" ∷ codes "--lcov2" ∷ codes "f" ∷ []) ≡ kind.UnknownArgument ∷ [] }
 {}
 
 /// Rejected command lines, with clap's kind of error for each. The program has the option `--version`, but its subcommands don't.

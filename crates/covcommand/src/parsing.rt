@@ -4,13 +4,14 @@ ghost use Rattle.std.specs.Prelude.{◌≡◌, ◌≢◌, ◌≤◌, ◌++◌, [
 ghost use Rattle.std.specs.String.{string_bytes};
 ghost use Rattle.clap.specs.Words.{rows_of, found_of, subcommand_of, takes, fault_of, first_of};
 ghost use Rattle.covcommand.specs.CommandLine.{covcollect};
-ghost use Rattle.covcommand.specs.Asked.{AreLimitsOf, AsksFor, GoesTo, HasSize, HasStrictness, IsFilterOf, IsFormOf, IsFormatOf, IsInBounds, IsLimitOf, IsNumberOf, IsOutputOf, IsSizeOf, IsStrictnessOf, IsVersionOf, rows_met, tracefile_and_patterns, values_of};
-ghost use Rattle.covcommand.specs.Found.{Fits, HasFilter, HasFlag, HasJobs, HasSome, HasTest, TellsFlags};
+ghost use Rattle.covcommand.specs.Asked.{AreLimitsOf, AsksFor, AsksToCombine, GoesTo, HasSize, HasStrictness, IsFilterOf, IsFormOf, IsFormatOf, IsInBounds, IsLimitOf, IsNumberIfAny, IsNumberOf, IsOutputOf, IsOverviewOf, IsSizeOf, IsStrictnessOf, IsUpToIfAny, IsVersionOf, rows_met, tracefile_and_patterns, values_of};
+ghost use Rattle.covcommand.specs.Found.{Fits, HasCombining, HasFilter, HasFlag, HasJobs, HasNumberIfAny, HasSome, HasTest, TellsFlags};
 ghost use Rattle.covcommand.specs.Fault.{IsFaultAmong};
 ghost use Rattle.covcommand.specs.declared.fault.CommandFault.TheVariants as faults;
 
 use crate::asked::{
-    Asked, Command, Limits, SourceFilter, Strictness, TextFormat, TextSize, TotalsForm,
+    Asked, CombineOptions, Command, Limits, Overview, SourceFilter, Strictness, TextFormat,
+    TextSize, TotalsForm,
 };
 use crate::described::described;
 use crate::fault::CommandFault;
@@ -94,13 +95,14 @@ fn strictness_of(found: &ArgMatches<'_>) -> Strictness
     }
 }
 
-/// Returns the size limit of `command`: limited for a session and `gcov`, else by the flag `--large`.
+/// Returns the size limit of `command`: limited for a session and `gcov`, none for `combine`, else by the flag `--large`.
 fn size_for(command: &Command, found: &ArgMatches<'_>) -> TextSize
     requires { TellsFlags (rows_of (found_of found.now)) command.now }
     ensures { HasSize (rows_of (found_of found.now)) command.now result }
 {
     match command {
         Command::Session | Command::Gcov { .. } => TextSize::Limited,
+        Command::Combine(_) => TextSize::Large,
         _ => size_of(found),
     }
 }
@@ -185,12 +187,70 @@ fn command_from(alloc: Global, name: &str, found: &ArgMatches<'_>) -> Result<Com
             test: test_of(alloc, found)?,
             names: files_of(alloc, found)?,
         }),
-        _ => Ok(Command::Check {
+        "check" => Ok(Command::Check {
             format: format_of(found),
             jobs: jobs_of(found),
             names: files_of(alloc, found)?,
         }),
+        _ => Ok(Command::Combine(combine_options_of(alloc, found)?)),
     }
+}
+
+/// The options of `combine`.
+fn combine_options_of(alloc: Global, found: &ArgMatches<'_>) -> Result<CombineOptions, Memory>
+    requires { HasCombining (rows_of (found_of found.now)) }
+    ensures asks { IfOk result (AsksToCombine (rows_of (found_of found.now))) }
+    ensures jobs { IfOk result (λ options. IsUpToIfAny 64 options.jobs) }
+    ensures expected { IfOk result (λ options. IsUpToIfAny 1048576 options.expected) }
+{
+    Ok(CombineOptions {
+        jobs: jobs_if_any(found),
+        expected: expected_of(found),
+        filter: source_filter_of(alloc, found)?,
+        overview: overview_of(found),
+        form: form_of(found),
+        limits: limits_of(alloc, found)?,
+        names: names_of(alloc, found)?,
+    })
+}
+
+/// The argument of `--jobs`, or `None` without the option.
+fn jobs_if_any(found: &ArgMatches<'_>) -> Option<u32>
+    requires { HasNumberIfAny (codes "jobs") 64 (rows_of (found_of found.now)) }
+    ensures number { IsNumberIfAny (codes "jobs") (rows_of (found_of found.now)) result }
+    ensures bounds { IsUpToIfAny 64 result }
+{
+    found.get_one::<u32>("jobs")
+}
+
+/// The argument of `--expect`, or `None` without the option.
+fn expected_of(found: &ArgMatches<'_>) -> Option<u32>
+    requires { HasNumberIfAny (codes "expect") 1048576 (rows_of (found_of found.now)) }
+    ensures number { IsNumberIfAny (codes "expect") (rows_of (found_of found.now)) result }
+    ensures bounds { IsUpToIfAny 1048576 result }
+{
+    found.get_one::<u32>("expect")
+}
+
+/// What is shown: each source file if clap found the flag `--list`, else the summary.
+fn overview_of(found: &ArgMatches<'_>) -> Overview
+    requires { HasFlag (codes "list") (rows_of (found_of found.now)) }
+    ensures { IsOverviewOf (rows_of (found_of found.now)) result }
+{
+    if found.get_flag("list") {
+        Overview::List
+    } else {
+        Overview::Summary
+    }
+}
+
+/// The names of the files, which may be none.
+fn names_of(alloc: Global, found: &ArgMatches<'_>) -> Result<Names, Memory>
+    ensures { IfOk result (λ n. n ≡ values_of (codes "FILE") (rows_of (found_of found.now))) }
+{
+    let mut names = Names::new(alloc);
+    push_values(&mut names, alloc, found, "FILE")?;
+    Ok(names)
 }
 
 /// The argument of `--jobs`.
@@ -208,9 +268,7 @@ fn files_of(alloc: Global, found: &ArgMatches<'_>) -> Result<Names, Memory>
     ensures names { IfOk result (λ n. n ≡ values_of (codes "FILE") (rows_of (found_of found.now))) }
     ensures some { IfOk result (λ n. 1 ≤ length n) }
 {
-    let mut names = Names::new(alloc);
-    push_values(&mut names, alloc, found, "FILE")?;
-    Ok(names)
+    names_of(alloc, found)
 }
 
 /// The patterns of `--include` and `--exclude`.

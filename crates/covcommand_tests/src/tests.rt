@@ -4,8 +4,8 @@
 //! proof. Functions append to a text and panic if memory runs out: each `?` would have to drop the text.
 
 use covcommand::{
-    Asked, Command, CommandFault, LcovVersion, Limits, Names, SourceFilter, Strictness, TextFormat,
-    TextSize, TotalsForm, command,
+    Asked, CombineOptions, Command, CommandFault, LcovVersion, Limits, Names, Overview,
+    SourceFilter, Strictness, TextFormat, TextSize, TotalsForm, command,
 };
 use std::alloc::Global;
 use std::fmt::Write;
@@ -161,6 +161,35 @@ fn put_command(rt: &impl Abort, text: &mut String, command: &Command) {
             jobs,
             names,
         } => put_check(rt, text, format, *jobs, names),
+        Command::Combine(options) => put_combine(rt, text, options),
+    }
+}
+
+/// Appends the command `combine`, its numbers, the source filter, the overview, the thresholds and the names.
+fn put_combine(rt: &impl Abort, text: &mut String, options: &CombineOptions) {
+    put(rt, text, "combine");
+    put_number(rt, text, " jobs(", options.jobs);
+    put_number(rt, text, " expected(", options.expected);
+    put_each(rt, text, " +[", &options.filter.includes);
+    put_each(rt, text, " -[", &options.filter.excludes);
+    put(rt, text, overview_word(&options.overview));
+    put_summary(rt, text, &options.form, &options.limits, &options.names);
+}
+
+/// Appends the number of an option after `mark` and before a closing parenthesis.
+fn put_number(rt: &impl Abort, text: &mut String, mark: &str, number: Option<u32>) {
+    if let Some(number) = number {
+        if write!(text, "{mark}{number})").is_err() {
+            panic!(rt; "out of memory");
+        }
+    }
+}
+
+/// The word for a list of source files.
+fn overview_word(overview: &Overview) -> &'static str {
+    match overview {
+        Overview::Summary => "",
+        Overview::List => " list",
     }
 }
 

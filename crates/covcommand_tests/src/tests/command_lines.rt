@@ -37,6 +37,22 @@ covcollect check main.c.gcov --gcov util.c.gcov => check (gcov 1) [main.c.gcov] 
 covcollect check -- --gcov => check (tracefile 1 1) [--gcov]
 covcollect check gcov => check (tracefile 1 1) [gcov]
 
+# `combine` and its options. No file is required.
+covcollect combine a.info => combine [a.info] large
+covcollect combine => combine large
+covcollect combine -o all.info b.info a.info => combine [b.info] [a.info] large >[all.info]
+covcollect combine -j 4 --expect 2 a.info b.info => combine jobs(4) expected(2) [a.info] [b.info] large
+covcollect combine --jobs=64 --expect=1048576 a.info => combine jobs(64) expected(1048576) [a.info] large
+covcollect combine --strict -q a.info => combine [a.info] strict large
+covcollect combine --quiet a.info --json --list => combine list json [a.info] large
+covcollect combine --include '*.c' --exclude '/usr/*' --fail-under-lines 80 a.info => combine +[*.c] -[/usr/*] lines(80) [a.info] large
+covcollect combine -- -q => combine [-q] large
+covcollect combine -j 0 a.info => 2 2 error: invalid value '0' for '--jobs <N>': 0 is not in 1..=64
+covcollect combine --expect 0 a.info => 2 2 error: invalid value '0' for '--expect <N>': 0 is not in 1..=1048576
+covcollect combine --expect 1048577 a.info => 2 2 error: invalid value '1048577' for '--expect <N>': 1048577 is not in 1..=1048576
+covcollect combine -q -q a.info => 2 2 error: the argument '--quiet' cannot be used multiple times
+covcollect combine --lcov2 a.info => 2 2 error: unexpected argument '--lcov2' found
+
 # The number of jobs, from 1 to 64.
 covcollect merge --jobs 1 a.info => merge (1 1) [a.info]
 covcollect merge --jobs 64 a.info => merge (1 64) [a.info]

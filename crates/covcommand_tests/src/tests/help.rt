@@ -6,7 +6,7 @@ use std::process::Abort;
 use std::test::*;
 
 /// Each call that requests help, with the number of examples in the help text.
-const HELPS: [(&str, usize); 8] = [
+const HELPS: [(&str, usize); 9] = [
     ("covcollect --help", 5),
     ("covcollect merge --help", 6),
     ("covcollect summary --help", 4),
@@ -15,6 +15,7 @@ const HELPS: [(&str, usize); 8] = [
     ("covcollect remove --help", 3),
     ("covcollect gcov --help", 1),
     ("covcollect check --help", 4),
+    ("covcollect combine --help", 4),
 ];
 
 /// Each example call in the help texts is valid, and is parsed as the subcommand that it names.

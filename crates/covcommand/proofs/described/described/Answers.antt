@@ -9,4 +9,5 @@ returns c =
     let with_extract = c.with-extracting.ensures _ line.extract with_list c.extract.ensures in
     let with_remove = c.with-removing.ensures _ line.remove with_extract c.remove.ensures in
     let with_gcov = c.with-converting.ensures _ line.gcov with_remove c.gcov.ensures in
-    c.with.ensures _ line.check with_gcov c.check.ensures
+    let with_check = c.with-checking.ensures _ line.check with_gcov c.check.ensures in
+    c.with.ensures _ line.combine with_check c.combine.ensures

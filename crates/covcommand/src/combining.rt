@@ -1,0 +1,89 @@
+//! Describes `combine` to clap.
+
+ghost use Rattle.std.specs.Prelude.{IfOk};
+ghost use Rattle.covcommand.specs.CommandLine as line;
+ghost use Rattle.covcommand.specs.Built.{HasNoGlobals, IsRule};
+
+use crate::described::{explained, flag, json, limit, output, patterns, strict, taking};
+use crate::help;
+use clap::{Arg, ArgAction, Command, value_parser};
+use std::alloc::{AllocError, Global};
+
+/// Returns the description of `combine`.
+pub(crate) fn combine<'a>(alloc: Global) -> Result<Command<'a>, AllocError>
+    ensures { IfOk result (HasNoGlobals line.combine) }
+{
+    let combine = explained(showing(alloc), help::COMBINE, help::COMBINE_END);
+    let lines = limit(alloc, "fail-under-lines", help::FAIL_UNDER_LINES);
+    let functions = limit(alloc, "fail-under-functions", help::FAIL_UNDER_FUNCTIONS);
+    let branches = limit(alloc, "fail-under-branches", help::FAIL_UNDER_BRANCHES);
+    taking(taking(taking(combine, lines), functions), branches)
+}
+
+/// Returns `combine` without thresholds: that of `reading` with three flags for what is shown.
+fn showing<'a>(alloc: Global) -> Result<Command<'a>, AllocError>
+    ensures { IfOk result (HasNoGlobals line.showing) }
+{
+    let showing = taking(reading(alloc), flag(alloc, "list", help::SHOW_LIST));
+    let showing = taking(showing, json(alloc));
+    taking(showing, quiet(alloc))
+}
+
+/// Returns `combine` with the files, and the options for how they are read and which of their counts are printed.
+fn reading<'a>(alloc: Global) -> Result<Command<'a>, AllocError>
+    ensures { IfOk result (HasNoGlobals line.reading) }
+{
+    let reading = taking(Ok(Command::new(alloc, "combine")), files(alloc));
+    let reading = taking(reading, own_jobs(alloc));
+    let reading = taking(reading, output(alloc));
+    let reading = taking(reading, strict(alloc, help::STRICT_COMBINE));
+    let reading = taking(reading, patterns(alloc, "include", help::INCLUDE));
+    let reading = taking(reading, patterns(alloc, "exclude", help::EXCLUDE));
+    taking(reading, expect(alloc))
+}
+
+/// The argument for files, of which there may be none.
+fn files<'a>(alloc: Global) -> Arg<'a>
+    ensures { IsRule line.files result }
+{
+    Arg::new(alloc, "FILE")
+        .num_args(1..)
+        .action(ArgAction::Append)
+        .help(help::TRACEFILES)
+}
+
+/// `--jobs N` or `-j N`, the number of jobs, without a default.
+fn own_jobs<'a>(alloc: Global) -> Arg<'a>
+    ensures { IsRule line.own_jobs result }
+{
+    Arg::new(alloc, "jobs")
+        .short('j')
+        .long("jobs")
+        .value_name("N")
+        .action(ArgAction::Set)
+        .value_parser(value_parser!(u32).range(1..=64))
+        .help(help::OWN_JOBS)
+}
+
+/// `--expect N`, the number of files.
+fn expect<'a>(alloc: Global) -> Arg<'a>
+    ensures { IsRule line.expect result }
+{
+    Arg::new(alloc, "expect")
+        .long("expect")
+        .value_name("N")
+        .action(ArgAction::Set)
+        .value_parser(value_parser!(u32).range(1..=1_048_576))
+        .help(help::EXPECT)
+}
+
+/// The flag `--quiet` or `-q`: no progress is shown.
+fn quiet<'a>(alloc: Global) -> Arg<'a>
+    ensures { IsRule line.quiet result }
+{
+    Arg::new(alloc, "quiet")
+        .short('q')
+        .long("quiet")
+        .action(ArgAction::SetTrue)
+        .help(help::QUIET)
+}
