@@ -22,10 +22,21 @@ use Rattle.covcombine.specs.Messages.{clash_line, expected_line, fault_line, mis
 use Rattle.covcombine.specs.Options.{CombineData}
 use Rattle.covcombine.specs.declared.call_fault.CallOption.TheVariants.{Include, Exclude}
 use Rattle.covcombine.specs.declared.call_fault.CallOption.{CallOption}
-use Rattle.covcombine.specs.declared.ending.Ending.{Ending}
-use Rattle.covcombine.specs.declared.ending.Ending.TheVariants.{Fails, Gives}
 use Rattle.covcombine.specs.declared.note.Note.{Note}
 use Rattle.covcombine.specs.declared.note.Note.TheVariants.{Unreadable, Strange, NoRecord, Faulty, Merged}
+
+-- what a call gives that doesn't fail. `tracefile`: the merged tracefile. `overview`: what is shown of it if it goes into a file. `missed`: lines
+-- about rates below their limits
+pub record GivenData : Type 0 where
+  pub warnings : List ℕ
+  pub tracefile : List ℕ
+  pub overview : List ℕ
+  pub missed : List ℕ
+
+-- how a call ends. `Fails`: with this status and these lines; no counts are printed, and no file is written
+pub data EndingData : Type 0 where
+  Fails : (status : ℕ) → (lines : List ℕ) → EndingData
+  Gives : (given : GivenData) → EndingData
 
 -- ---- lines about files
 
@@ -118,27 +129,27 @@ is_whole entries notes =
     list_all (λ (n : RefusedInput Note). is_merged n.fault) notes && list_all (λ (e : EntryData). not (is_clash e.answer)) entries
 
 -- patterns are judged by the whole alone
-abbrev pub judged : (front : List ℕ) → CombineData → List EntryData → List (RefusedInput Note) → List ℕ
-judged front work entries notes = if is_whole entries notes then pattern_lines front work.choice (content_at (table_of (ops_in entries))) else []
+abbrev pub judged_by : (front : List ℕ) → ChoiceData → List EntryData → List (RefusedInput Note) → List ℕ
+judged_by front choice entries notes = if is_whole entries notes then pattern_lines front choice (content_at (table_of (ops_in entries))) else []
 
-abbrev pub pattern_warnings : Strictness → CombineData → List EntryData → List (RefusedInput Note) → List ℕ
-pattern_warnings Lenient work entries notes = judged (codes "warning: ") work entries notes
-pattern_warnings Strict work entries notes = []
+abbrev pub pattern_warnings : Strictness → ChoiceData → List EntryData → List (RefusedInput Note) → List ℕ
+pattern_warnings Lenient choice entries notes = judged_by (codes "warning: ") choice entries notes
+pattern_warnings Strict choice entries notes = []
 
-abbrev pub pattern_refusals : Strictness → CombineData → List EntryData → List (RefusedInput Note) → List ℕ
-pattern_refusals Lenient work entries notes = []
-pattern_refusals Strict work entries notes = judged [] work entries notes
+abbrev pub pattern_refusals : Strictness → ChoiceData → List EntryData → List (RefusedInput Note) → List ℕ
+pattern_refusals Lenient choice entries notes = []
+pattern_refusals Strict choice entries notes = judged_by [] choice entries notes
 
 -- ---- the end
 
 abbrev pub warnings : CombineData → List EntryData → List (RefusedInput Note) → List ℕ
-warnings work entries notes = lines_by (warning_of work.strictness) work.files notes ++ pattern_warnings work.strictness work entries notes
+warnings work entries notes = lines_by (warning_of work.strictness) work.files notes ++ pattern_warnings work.strictness work.choice entries notes
 
 -- why the call fails: files in their order, clashes, how many files were read, and patterns
 abbrev pub failures : CombineData → List EntryData → List (RefusedInput Note) → List ℕ
 failures work entries notes =
     lines_by (refusal_of work.strictness) work.files notes
-    ++ (clash_lines entries ++ (unexpected work.expected (merged_in notes) ++ pattern_refusals work.strictness work entries notes))
+    ++ (clash_lines entries ++ (unexpected work.expected (merged_in notes) ++ pattern_refusals work.strictness work.choice entries notes))
 
 -- the status of a call that fails for a file with this note
 abbrev pub note_status : Note → ℕ
@@ -164,23 +175,22 @@ overview_text overviews.Summary Json choice sections = summary_json_of (totals_o
 overview_text overviews.List Words choice sections = list_table_of (chosen_files choice sections) (totals_of_chosen choice sections)
 overview_text overviews.List Json choice sections = list_json_of (chosen_files choice sections) (totals_of_chosen choice sections)
 
--- what a call gives that doesn't fail: of the chosen source files of this table, the tracefile, an overview, and lines about rates that
--- are missed
-abbrev pub given : (warnings : List ℕ) → CombineData → List SectionData → Ending
-given warnings work sections = Gives (record {
+-- what a call gives of the chosen source files of this table
+abbrev pub given : (warnings : List ℕ) → CombineData → List SectionData → GivenData
+given warnings work sections = record {
   warnings = warnings;
   tracefile = report_text work.choice sections;
   overview = overview_text work.overview work.form work.choice sections;
   missed = shortfalls work.limits (totals_of_chosen work.choice sections);
-})
+}
 
 -- warnings stand before what the call fails for, so the last lines of a log say why
-abbrev pub fails_for : (failures warnings : List ℕ) → (status : ℕ) → (otherwise : Ending) → Ending
+abbrev pub fails_for : (failures warnings : List ℕ) → (status : ℕ) → (otherwise : EndingData) → EndingData
 fails_for [] warnings status otherwise = otherwise
 fails_for (b ∷ bs) warnings status otherwise = Fails status (warnings ++ (b ∷ bs))
 
 -- how a call ends that has collected this history and these notes
-abbrev pub end_of : CombineData → List EntryData → List (RefusedInput Note) → Ending
+abbrev pub end_of : CombineData → List EntryData → List (RefusedInput Note) → EndingData
 end_of work entries notes =
     fails_for (failures work entries notes) (warnings work entries notes) (failure_status entries notes)
-    (given (warnings work entries notes) work (content_at (table_of (ops_in entries))))
+    (Gives (given (warnings work entries notes) work (content_at (table_of (ops_in entries)))))

@@ -1,6 +1,6 @@
 -- Private steps: how a tracefile is read part by part, and what is refused before.
-use Rattle.std.specs.List.{sum_by}
-use Rattle.std.specs.Prelude.{◌≡◌, ◌⊎◌, ◌+◌, ℕ, List, [], length, Option, None, Some, Result, Ok, Err}
+use Rattle.std.specs.List.{AllByRecursion, sum_by}
+use Rattle.std.specs.Prelude.{◌≡◌, ◌⊎◌, ◌+◌, ◌<◌, ◌≤◌, ℕ, List, [], length, Option, None, Some, Result, Ok, Err, Contains}
 use Rattle.covcommand.specs.declared.asked.CombineOptions.{CombineOptions}
 use Rattle.covcommand.specs.declared.asked.Strictness.{Strictness}
 use Rattle.covcommand.specs.declared.asked.Strictness.TheVariants.{Lenient, Strict}
@@ -10,22 +10,33 @@ use Rattle.covlarge.specs.Large.{max_pieces}
 use Rattle.covlarge.specs.State.{MayFailFrom, MayGive}
 use Rattle.covlarge.specs.StateData.{StateData}
 use Rattle.covlarge.specs.Summary.{SummaryData, told_number}
+use Rattle.covlarge.specs.declared.fault.PieceFault.{PieceFault}
+use Rattle.covlarge.specs.declared.fault.PieceFault.TheVariants as pieces
+use Rattle.covlimit.specs.Rates.{IsRate}
+use Rattle.covreport.specs.Choice.{max_pattern_bytes, max_patterns}
+use Rattle.covreport.specs.declared.patterns.PatternFault.{PatternFault}
+use Rattle.covreport.specs.declared.patterns.PatternFault.TheVariants as patterns
+use Rattle.covstream.specs.declared.fault.BlockFault.{BlockFault}
+use Rattle.covstream.specs.declared.fault.BlockFault.TheVariants as blocks
 use Rattle.covworkers.specs.Collect.{OutcomeData}
+use Rattle.covworkers.specs.Work.{in_front}
 use Rattle.covworkers.specs.declared.late_fault.LateFault.{LateFault}
 use Rattle.covworkers.specs.declared.late_fault.LateFault.TheVariants as late
 use Rattle.covworld.specs.Folder.{FolderData}
-use Rattle.covcombine.specs.Combine.{end_of}
 use Rattle.covcombine.specs.Notes.{IsOfFile, note_of}
-use Rattle.covcombine.specs.Options.{IsCallFault}
-use Rattle.covcombine.specs.declared.call_fault.CallFault.{CallFault}
+use Rattle.covcombine.specs.Options.{AsksForOverview, IsCallFault, IsTwice}
+use Rattle.covcombine.specs.declared.call_fault.CallFault.TheVariants.{ManyPatterns, LongPattern, NoRate, NoRoom, NoName, Twice}
+use Rattle.covcombine.specs.declared.call_fault.CallOption.{CallOption}
 use Rattle.covcombine.specs.declared.call_fault.WorkFault.{WorkFault}
 use Rattle.covcombine.specs.declared.call_fault.WorkFault.TheVariants as works
 use Rattle.covcombine.specs.declared.note.Counts.{Counts}
 use Rattle.covcombine.specs.declared.note.Note.{Note}
 use Rattle.covcombine.specs.declared.note.Note.TheVariants.{Unreadable, Faulty}
-use Rattle.covcombine.specs.declared.tracefile.Opened.{Opened}
-use Rattle.covcombine.specs.declared.tracefile.Stage.{Stage}
-use Rattle.covcombine.specs.declared.tracefile.Stage.TheVariants as stages
+use Rattle.covcombine.specs.declared.opened.Opened.{Opened}
+use Rattle.covcombine.specs.declared.opened.Stage.{Stage}
+use Rattle.covcombine.specs.declared.opened.Stage.TheVariants as stages
+use Rattle.covcombine.specs.declared.stop.Stop.{Stop}
+use Rattle.covcombine.specs.declared.stop.Stop.TheVariants as stops
 
 -- ---- tracefiles
 
@@ -65,11 +76,23 @@ MayGiveOpened left failed_reads first counts rest outcome =
     ⊎ ((read : List SubmissionData) × (end : Result (Option SummaryData) ReadFault) × MayGive left rest read end
     × (outcome ≡ record { read = read; fault = Some (note_at first (counts_with counts read) end) }))
 
+-- what may come of a file that was opened before
+abbrev pub MayGiveLater : {S : Type 0} → (left : S → Option (List ℕ)) → (failed_reads : S → ℕ) → Stage S → OutcomeData Note → Type 0
+MayGiveLater left failed_reads stages.Unopened outcome = ⊥
+MayGiveLater left failed_reads (stages.Reading opened) outcome = MayGiveOpened left failed_reads opened.first opened.counts opened.rest outcome
+MayGiveLater left failed_reads (stages.Ended note) outcome = outcome ≡ record { read = []; fault = Some note }
+
 -- what may come of a file at this stage
 abbrev pub MayGiveFrom : {S : Type 0} → (left : S → Option (List ℕ)) → (failed_reads : S → ℕ) → FolderData → Strictness → (name : List ℕ) → Stage S → OutcomeData Note → Type 0
 MayGiveFrom left failed_reads folder strictness name stages.Unopened outcome = IsOfFile folder strictness name outcome
-MayGiveFrom left failed_reads folder strictness name (stages.Reading opened) outcome = MayGiveOpened left failed_reads opened.first opened.counts opened.rest outcome
-MayGiveFrom left failed_reads folder strictness name (stages.Ended note) outcome = outcome ≡ record { read = []; fault = Some note }
+MayGiveFrom left failed_reads folder strictness name (stages.Reading opened) outcome = MayGiveLater left failed_reads (stages.Reading opened) outcome
+MayGiveFrom left failed_reads folder strictness name (stages.Ended note) outcome = MayGiveLater left failed_reads (stages.Ended note) outcome
+
+-- the file was opened before
+abbrev pub IsLater : {S : Type 0} → Stage S → Type 0
+IsLater stages.Unopened = ⊥
+IsLater (stages.Reading opened) = Unit {0}
+IsLater (stages.Ended note) = Unit {0}
 
 -- how many more parts a file at this stage can have
 abbrev pub most_parts : {S : Type 0} → Stage S → ℕ
@@ -82,13 +105,77 @@ pub record IsOpenedFor {S : Type 0} (left : S → Option (List ℕ)) (failed_rea
   pub gives : (outcome : OutcomeData Note) → MayGiveOpened left failed_reads opened.first opened.counts opened.rest outcome → MayGiveFrom left failed_reads folder strictness name stage outcome
   pub most : opened.rest.left ≡ most_parts stage
 
--- a file ends with this fault: with its note, or since memory ran out. It is never unreadable, since that is a note too
-abbrev pub EndsWith : (MayGive : OutcomeData Note → Type 0) → LateFault Note → Type 0
-EndsWith MayGive (late.Refused note) = MayGive (record { read = []; fault = Some note })
-EndsWith MayGive late.Unreadable = ⊥
-EndsWith MayGive late.Memory = Unit {0}
+-- a piece of an opened tracefile was read as this submission, and this is the next stage: whatever that gives, the tracefile may give with
+-- the submission in front
+pub record IsNextStage {S : Type 0} (left : S → Option (List ℕ)) (failed_reads : S → ℕ) (opened : Opened S) (submission : SubmissionData) (stage : Stage S) : Type 0 where
+  pub later : IsLater stage
+  pub fewer : most_parts stage < opened.rest.left
+  pub gives : (outcome : OutcomeData Note) → MayGiveLater left failed_reads stage outcome
+      → MayGiveOpened left failed_reads opened.first opened.counts opened.rest (in_front submission outcome)
+
+-- a file gives nothing more: it ends with its note, or memory ran out
+abbrev pub EndsWith : (MayGive : OutcomeData Note → Type 0) → Stop → Type 0
+EndsWith MayGive (stops.Ended note) = MayGive (record { read = []; fault = Some note })
+EndsWith MayGive stops.Memory = Unit {0}
+
+abbrev pub of_stop : Stop → LateFault Note
+of_stop (stops.Ended note) = late.Refused note
+of_stop stops.Memory = late.Memory
+
+-- a fault of a piece, and of reading blocks
+abbrev pub of_piece : PieceFault → Stop
+of_piece (pieces.Refused fault) = stops.Ended (Faulty fault)
+of_piece pieces.Unreadable = stops.Ended Unreadable
+of_piece pieces.Memory = stops.Memory
+
+abbrev pub of_block : BlockFault → Stop
+of_block blocks.Unreadable = stops.Ended Unreadable
+of_block blocks.Memory = stops.Memory
 
 -- ---- options
+
+-- the patterns of an option are taken
+abbrev pub ArePatterns : List (List ℕ) → Type 0
+ArePatterns patterns = (length patterns ≤ max_patterns) × AllByRecursion (λ pattern. length pattern ≤ max_pattern_bytes) patterns
+
+-- the patterns of an option aren't taken
+abbrev pub IsPatternFault : CallOption → List (List ℕ) → WorkFault → Type 0
+IsPatternFault option patterns (works.Call (ManyPatterns same)) = (same ≡ option) × (max_patterns < length patterns)
+IsPatternFault option patterns (works.Call (LongPattern same)) =
+    (same ≡ option) × (pattern : List ℕ) × Contains patterns pattern × (max_pattern_bytes < length pattern)
+IsPatternFault option patterns (works.Call other) = ⊥
+IsPatternFault option patterns works.Memory = Unit {0}
+
+abbrev pub of_pattern : CallOption → PatternFault → WorkFault
+of_pattern option patterns.TooMany = works.Call (ManyPatterns option)
+of_pattern option patterns.TooLong = works.Call (LongPattern option)
+of_pattern option patterns.Memory = works.Memory
+
+-- the word of an option is no rate
+abbrev pub IsRateFault : CallOption → Option (List ℕ) → WorkFault → Type 0
+IsRateFault option word (works.Call (NoRate same told)) = (same ≡ option) × (word ≡ Some told.now) × (IsRate told.now → ⊥)
+IsRateFault option word (works.Call other) = ⊥
+IsRateFault option word works.Memory = Unit {0}
+
+-- a name that stands twice; `None` if none does
+abbrev pub IsTwiceIfAny : List (List ℕ) → Option (List ℕ) → Type 0
+IsTwiceIfAny names None = (name : List ℕ) → IsTwice names name → ⊥
+IsTwiceIfAny names (Some name) = IsTwice names name
+
+-- there is a name, and none stands twice
+abbrev pub AreNames : List (List ℕ) → Type 0
+AreNames names = (names ≡ [] → ⊥) × IsTwiceIfAny names None
+
+-- there is no name, or one stands twice
+abbrev pub IsNameFault : List (List ℕ) → WorkFault → Type 0
+IsNameFault names (works.Call NoName) = names ≡ []
+IsNameFault names (works.Call (Twice name)) = IsTwice names name.now
+IsNameFault names (works.Call other) = ⊥
+IsNameFault names works.Memory = Unit {0}
+
+-- there is a file, or no option asks for an overview
+abbrev pub HasRoom : CombineOptions → (file : Option (List ℕ)) → Type 0
+HasRoom options file = (option : CallOption) → file ≡ None → AsksForOverview option options → ⊥
 
 -- the work isn't begun: for a fault of the call, or since memory ran out
 abbrev pub IsWorkFault : CombineOptions → (file : Option (List ℕ)) → WorkFault → Type 0

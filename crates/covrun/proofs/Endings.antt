@@ -28,6 +28,8 @@ use Rattle.covworkers.specs.declared.refused.RefusedInput.{RefusedInput}
 use Rattle.covcommand.specs.declared.asked.Strictness.{Strictness}
 use Rattle.covrun.specs.declared.text_fault.TextFault.{TextFault}
 use Rattle.covrun.specs.Strict.{asked_patterns, unmatched_line}
+use Rattle.covcombine.specs.Combined.{IsCombineCall}
+use Rattle.covcommand.specs.declared.asked.CombineOptions.{CombineOptions}
 use Rattle.covcommand.specs.declared.asked.Command.{Command}
 use Rattle.covcommand.specs.declared.asked.Command.TheVariants as commands
 use Rattle.covcommand.specs.declared.asked.TotalsForm.{TotalsForm}
@@ -49,7 +51,7 @@ use Rattle.covrun.specs.declared.ending.Failure.{Failure}
 use Rattle.covrun.specs.declared.ending.Failure.TheVariants as failures
 use Rattle.covrun.specs.Ending.{EndingData, Prints, FallsShort, Unreadable, Stopped, Refuses, IsUnclean, strict_lines, of_collect, of_collected, complaints, refusal_line, ran_out, shortfall_status, text_in, text_at, last_text, asked_shortfalls, asked_text, list_text, unless_any, with_shortfalls}
 use Rattle.covlimit.specs.Limits.{has_limit}
-use Rattle.covrun.specs.Work.{QuestionData, Answer, ChosenReport, ChosenTotals, ChosenList, last_of, choice_of, asked_of, limits_of, summary_asked, words_asked, WorkData, TaskData, Serves, Collects, Checks, task_of}
+use Rattle.covrun.specs.Work.{QuestionData, Answer, ChosenReport, ChosenTotals, ChosenList, last_of, choice_of, asked_of, limits_of, summary_asked, words_asked, WorkData, TaskData, Serves, Collects, Checks, Combines, task_of}
 use Rattle.covcommand.specs.declared.asked.TextSize.{TextSize}
 use Rattle.covrun.specs.declared.work.CheckedFormat.{CheckedFormat}
 use Rattle.covrun.proofs.Reading.{HaveTexts, HaveTextsFor, collected_in}
@@ -265,6 +267,7 @@ abbrev AsksText : TaskData → Type 0
 AsksText Serves = Unit {0}
 AsksText (Collects work) = IsText (last_of work.asks)
 AsksText (Checks format strictness jobs files) = Unit {0}
+AsksText (Combines options strictness) = Unit {0}
 
 report_or_chosen : (choice : Option ChoiceData) → IsText (last_of (asked_of ReportOp ChosenReport choice))
 report_or_chosen None = tt
@@ -291,6 +294,7 @@ asks_text_of (commands.Extract version names) strictness size = tt
 asks_text_of (commands.Remove version names) strictness size = tt
 asks_text_of (commands.Gcov test names) strictness size = tt
 asks_text_of (commands.Check format jobs names) strictness size = tt
+asks_text_of (commands.Combine options) strictness size = tt
 
 -- the last operation of each subcommand that collects files asks for a text
 pub asks_text : (command : Command) (strictness : Strictness) (size : TextSize) (work : WorkData) → Collects work ≡ task_of command strictness size → IsText (last_of work.asks)
@@ -315,6 +319,13 @@ pub told_check : (folder : FolderData) (format : CheckedFormat) (strictness : St
 told_check folder format strictness jobs names named task file status old new same is alone checked =
     subst (λ (t : TaskData). IsTaskDone folder t file status old new) is
     (alone, subst (λ (ns : List (List ℕ)). IsCheck folder format strictness ns status old.sinks new.sinks) same checked)
+
+-- if files were combined, the task of combining is done
+pub told_combine : (folder : FolderData) (options : CombineOptions) (strictness : Strictness) (task : TaskData) (file named : Option (List ℕ)) (status : ℕ) (old new : WorldData)
+    → Combines options strictness ≡ task → named ≡ file → IsCombineCall folder options strictness named status old new → IsTaskDone folder task file status old new
+told_combine folder options strictness task file named status old new is same done =
+    subst (λ (t : TaskData). IsTaskDone folder t file status old new) is
+    (subst (λ (f : Option (List ℕ)). IsCombineCall folder options strictness f status old new) same done)
 
 -- if the work doesn't begin, the call ends early
 pub stops_early : (command : Command) (fault : WorkFault) (ending : EndingData) → ending ≡ of_work fault → IsRefusal command fault → StopsEarly command ending

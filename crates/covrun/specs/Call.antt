@@ -12,6 +12,7 @@ use Rattle.covjobs.specs.Start.{AreJobs}
 use Rattle.covworkers.specs.declared.collect_fault.CollectFault.{CollectFault}
 use Rattle.covworkers.specs.declared.collect_fault.CollectFault.TheVariants as collects
 use Rattle.covworkers.specs.declared.refused.RefusedInput.{RefusedInput}
+use Rattle.covcombine.specs.Combined.{IsCombineCall}
 use Rattle.covrun.specs.Large.{AreWholeTexts, IsLargeOutcome}
 use Rattle.covrun.specs.Strict.{AreCollected, IsOutcomeFor}
 use Rattle.covrun.specs.declared.work.FileFormat.{FileFormat}
@@ -33,7 +34,7 @@ use Rattle.covsession.specs.declared.session.fault.SessionFault.TheVariants as f
 use Rattle.covrun.specs.declared.argument_fault.ArgumentFault.{ArgumentFault}
 use Rattle.covrun.specs.Ending.{EndingData, Prints, FallsShort, BadLine, BadWords, Unreadable, Stopped, status_of, complaint, of_collect, of_collected}
 use Rattle.covrun.specs.Naming.{naming_of, told_name}
-use Rattle.covrun.specs.Work.{WorkData, TaskData, Serves, Collects, Checks, last_of, task_of, input_of, AreTaken, AreRefused}
+use Rattle.covrun.specs.Work.{WorkData, TaskData, Serves, Collects, Checks, Combines, last_of, task_of, input_of, AreTaken, AreRefused}
 use Rattle.covrun.specs.Check.{IsCheck}
 use Rattle.covlist.specs.Shown.{shown_name}
 use Rattle.covworld.specs.Folder.{FolderData, AreTextsOf}
@@ -176,12 +177,14 @@ abbrev pub IsWorkDone : FolderData → WorkData → (file : Option (List ℕ)) �
 IsWorkDone folder work file status old new =
     (ending : EndingData) × WorkEnds folder file work ending × IsEndingReported file ending status old new
 
--- what a call does for its task. Only a session reads the input, and only collecting writes a file. Checking files reports each file
+-- what a call does for its task. Only a session reads the input, and only collecting and combining write a file. Checking files reports each
+-- file
 abbrev pub IsTaskDone : FolderData → TaskData → (file : Option (List ℕ)) → (status : ℕ) → WorldData → WorldData → Type 0
 IsTaskDone folder Serves file status old new = IsServed status old new
 IsTaskDone folder (Collects work) file status old new = IsWorkDone folder work file status old new
 IsTaskDone folder (Checks format strictness jobs names) file status old new =
     ChangesSinksAlone old new × IsCheck folder format strictness names status old.sinks new.sinks
+IsTaskDone folder (Combines options strictness) file status old new = IsCombineCall folder options strictness file status old new
 
 -- a command ends early, and the input isn't read; or its words are accepted, and its task is done
 abbrev pub IsCommandDone : FolderData → Command → Strictness → TextSize → (file : Option (List ℕ)) → (status : ℕ) → WorldData → WorldData → Type 0

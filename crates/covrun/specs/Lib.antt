@@ -2,6 +2,7 @@ pub use Rattle.covworld.specs.Streams
 pub use Rattle.covworld.specs.Folder
 pub use Rattle.covworld.specs.OutputFiles
 pub use Rattle.covworld.specs.World
+pub use Rattle.covcombine.specs.Combined
 pub mod Work
 pub mod Naming
 pub mod Strict

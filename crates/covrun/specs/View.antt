@@ -2,7 +2,7 @@
 use Rattle.covbook.specs.View.{op_data}
 use Rattle.covreport.specs.ChoiceView.{choice_data}
 use Rattle.covlimit.specs.LimitsView.{limits_data}
-use Rattle.covrun.specs.Work.{QuestionData, Answer, ChosenReport, ChosenTotals, ChosenList, WorkData, TaskData, Serves, Collects, Checks}
+use Rattle.covrun.specs.Work.{QuestionData, Answer, ChosenReport, ChosenTotals, ChosenList, WorkData, TaskData, Serves, Collects, Checks, Combines}
 use Rattle.covrun.specs.Ending.{EndingData, BadWords, Unreadable, Stopped, Refuses, IsUnclean, with_shortfalls}
 use Rattle.covrun.specs.declared.question.Question.{Question}
 use Rattle.covrun.specs.declared.question.Question.TheVariants as questions
@@ -26,6 +26,7 @@ abbrev pub task_data : Task → TaskData
 task_data tasks.Session = Serves
 task_data (tasks.Collect work) = Collects (work_data work)
 task_data (tasks.Check options files) = Checks options.format options.strictness options.jobs files
+task_data (tasks.Combine options strictness) = Combines options strictness
 
 abbrev pub ready_data : {T Plan Renaming : Type 0} → ReadyAnswer T Plan Renaming → EndingData
 ready_data answer = with_shortfalls answer.shortfalls answer.text

@@ -7,8 +7,9 @@ use Rattle.covlimit.specs.Rates.{IsRate}
 use Rattle.covreport.specs.Choice.{ChoiceData, AllFiles, Filtered, max_patterns, max_pattern_bytes}
 use Rattle.covbook.specs.Op.{OpData, ReportOp, SummaryOp, ExtractOp, RemoveOp}
 use Rattle.covjobs.specs.Inputs.{InputData, TraceInput, Lcov2Input, GcovInput}
+use Rattle.covcommand.specs.declared.asked.CombineOptions.{CombineOptions}
 use Rattle.covcommand.specs.declared.asked.Command.{Command}
-use Rattle.covcommand.specs.declared.asked.Command.TheVariants.{Session, Merge, Summary, List as ListFiles, Extract, Remove, Gcov, Check}
+use Rattle.covcommand.specs.declared.asked.Command.TheVariants.{Session, Merge, Summary, List as ListFiles, Extract, Remove, Gcov, Check, Combine}
 use Rattle.covcommand.specs.declared.asked.Limits.{Limits}
 use Rattle.covcommand.specs.declared.asked.TotalsForm.{TotalsForm}
 use Rattle.covcommand.specs.declared.asked.TotalsForm.TheVariants as forms
@@ -100,11 +101,13 @@ abbrev pub filtering : FileFormat → Strictness → (List (List ℕ) → OpData
 filtering format strictness op names =
     record { files = take 1 names; format = format; strictness = strictness; jobs = 1; asks = Answer (op (drop 1 names)) }
 
--- what a call has to do: a session; or to collect files and then answer what is asked; or to check files, each by itself
+-- what a call has to do: a session; or to collect files and then answer what is asked; or to check files, each by itself; or to combine
+-- files
 pub data TaskData : Type 0 where
   Serves : TaskData
   Collects : (work : WorkData) → TaskData
   Checks : (format : CheckedFormat) → (strictness : Strictness) → (jobs : ℕ) → (files : List (List ℕ)) → TaskData
+  Combines : (options : CombineOptions) → (strictness : Strictness) → TaskData
 
 -- what each subcommand has to do; a call without a subcommand is a session
 abbrev pub task_of : Command → Strictness → TextSize → TaskData
@@ -120,6 +123,7 @@ task_of (Remove version names) strictness size = Collects (filtering (tracefiles
 task_of (Gcov test names) strictness size =
     Collects (record { files = names; format = GcovOutput test; strictness = strictness; jobs = 1; asks = Answer ReportOp })
 task_of (Check format jobs names) strictness size = Checks (checked_as size format) strictness jobs names
+task_of (Combine options) strictness size = Combines options strictness
 
 -- a file's text as an input of collecting: a tracefile of this version of lcov, or gcov's text of this test
 abbrev pub input_of : FileFormat → List ℕ → InputData
@@ -170,7 +174,7 @@ IsLimitFault limits fault = (fault ≡ arguments.BadRate) × (AreRates limits �
 abbrev pub IsSummaryFault : SourceFilter → LimitsData → ArgumentFault → Type 0
 IsSummaryFault filter limits fault = IsFilterFault filter fault ⊎ (IsFilter filter × IsLimitFault limits fault)
 
--- the patterns, the limits and the test's name are accepted
+-- the patterns, the limits and the test's name are accepted. `combine` looks at its options itself
 abbrev pub AreTaken : Command → Type 0
 AreTaken Session = Unit {0}
 AreTaken (Merge version jobs filter names) = IsFilter filter
@@ -180,6 +184,7 @@ AreTaken (Extract version names) = ArePatterns (drop 1 names)
 AreTaken (Remove version names) = ArePatterns (drop 1 names)
 AreTaken (Gcov test names) = IsGoodTest test
 AreTaken (Check format jobs names) = Unit {0}
+AreTaken (Combine options) = Unit {0}
 
 -- a pattern, a limit or the test's name is refused for this reason
 abbrev pub AreRefused : Command → ArgumentFault → Type 0
@@ -191,3 +196,4 @@ AreRefused (Extract version names) fault = IsPatternFault (drop 1 names) fault
 AreRefused (Remove version names) fault = IsPatternFault (drop 1 names) fault
 AreRefused (Gcov test names) fault = IsTestFault test fault
 AreRefused (Check format jobs names) fault = ⊥
+AreRefused (Combine options) fault = ⊥

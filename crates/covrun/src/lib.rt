@@ -2,6 +2,7 @@
 //!
 //! `run` parses the command line (covcommand) and makes a `Task` of the command. The task is a session (covsession) if there is no
 //! subcommand. `check` reads and reports each file by itself (`checked`, `file_report`), several at once if there are several jobs.
+//! `combine` is a crate of its own, covcombine.
 //! Any other subcommand is `Work`: covworkers collects the files in a book, and a job reads a file when the file's turn comes
 //! (`FileInput`). So at most one file's content per job is in memory. The result of collecting is a `ReadyAnswer` or a `Failure`,
 //! which is reported by an exit status and on the two output streams. An answer goes from the book to the output in blocks while it

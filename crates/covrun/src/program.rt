@@ -13,6 +13,7 @@ use crate::collecting::do_work;
 use crate::ending::failure_of_work;
 use crate::output::{report_failure, report_line};
 use crate::work::{Task, task_for};
+use covcombine::combine;
 use covcommand::{Asked, CommandFault, command};
 use covreport::Table;
 use covstream::{Sink, Source};
@@ -44,6 +45,8 @@ use std::thread::Threads;
 /// that can be read. The error stream gets a complaint about a file that can't be read or has no item, and in a strict run also
 /// about a file that isn't clean. The status of `check` is 1 if a file can't be read, else 4 if one is invalid, else 5 if one has
 /// no item or isn't clean, else 0. A `check` ends early if a write of a line fails (1), or if memory runs out (3).
+///
+/// `combine` reads each file in chunks, and has an order of its own, which `covcombine::combine` gives.
 ///
 /// The run collects or checks the content of the files on the command line, if `folder` knows its files' bytes.
 ///
@@ -98,6 +101,18 @@ fn run_command<
         Ok(Task::Check { options, files }) => {
             check_files(rt, folder, alloc, &options, files.get(), &mut world.sinks)
         }
+        Ok(Task::Combine {
+            options,
+            strictness,
+        }) => combine::<R, F, P, I, O, E, T>(
+            rt,
+            folder,
+            alloc,
+            &options,
+            strictness,
+            name_of(&file),
+            world,
+        ),
         Err(fault) => report_failure(failure_of_work(fault), world),
     }
 }

@@ -4,8 +4,8 @@ use crate::argument_fault::ArgumentFault;
 use crate::question::Question;
 use covbook::Op;
 use covcommand::{
-    Command, LcovVersion, Limits as LimitWords, Names, SourceFilter, Strictness, TextFormat,
-    TextSize,
+    CombineOptions, Command, LcovVersion, Limits as LimitWords, Names, SourceFilter, Strictness,
+    TextFormat, TextSize,
 };
 use covdata::{Bytes, Memory, good_test};
 use covlimit::{Limits, Rate};
@@ -61,6 +61,11 @@ pub(crate) enum Task {
     Collect(Work),
     /// Checks files, each by itself.
     Check { options: CheckOptions, files: Names },
+    /// Combines files.
+    Combine {
+        options: CombineOptions,
+        strictness: Strictness,
+    },
 }
 
 /// Why a subcommand's work can't begin.
@@ -178,6 +183,10 @@ pub(crate) fn task_for(
             jobs,
             names,
         } => Ok(check_of(checked_as(size, format), strictness, jobs, names)),
+        Command::Combine(options) => Ok(Task::Combine {
+            options,
+            strictness,
+        }),
     }
 }
 

@@ -3,7 +3,7 @@ use Rattle.std.specs.String.{string_bytes}
 use Rattle.covworld.specs.Folder.{folder_data}
 use Rattle.covworld.specs.OutputFiles.{file_of}
 use Rattle.covrun.specs.View.{task_data, work_data, failure_data}
-use Rattle.covrun.proofs.Endings.{asks_text, stops_early, told_check, told_session, told_work}
+use Rattle.covrun.proofs.Endings.{asks_text, stops_early, told_check, told_combine, told_session, told_work}
 use Rattle.covrun.proofs.program.run_command.Goals as goal
 
 pub do_work-requires-clause-text : goal.do_work-requires-clause-text
@@ -33,6 +33,14 @@ returns-in-Ok-Check g c =
       told_check (folder_data g.F.Folder g.F.File.Source c.args.folder.now) _ _ _ _ _ _ (file_of (option_map string_bytes c.args.asked.output)) _ _ _ c.get.ensures
           (ap task_data (sym c.in-Ok-Check.field-0-is) ∙ c.in-Ok-Check.ensures.task) (refl, refl) c.check_files.ensures,
     ))
+
+pub returns-in-Ok-Combine : goal.returns-in-Ok-Combine
+returns-in-Ok-Combine g c =
+    inr (
+      c.in-Ok-Combine.ensures.taken,
+      told_combine (folder_data g.F.Folder g.F.File.Source c.args.folder.now) _ _ _ _ _ _ _ _
+          (ap task_data (sym c.in-Ok-Combine.field-0-is) ∙ c.in-Ok-Combine.ensures.task) c.name_of-in-Ok-Combine.ensures c.combine.ensures,
+    )
 
 pub returns : goal.returns
 returns g c =

@@ -1,0 +1,79 @@
+//! Why a call isn't begun.
+
+use covdata::Memory;
+
+/// An option that may be wrong.
+#[derive(Clone, Copy)]
+pub(crate) enum CallOption {
+    /// `--include`
+    Include,
+    /// `--exclude`
+    Exclude,
+    /// `--fail-under-lines`
+    FailUnderLines,
+    /// `--fail-under-functions`
+    FailUnderFunctions,
+    /// `--fail-under-branches`
+    FailUnderBranches,
+    /// `--list`
+    List,
+    /// `--json`
+    Json,
+}
+
+impl CallOption {
+    ghost use Rattle.std.specs.Prelude.{◌≡◌};
+    ghost use Rattle.covcombine.specs.Messages.{option_name};
+
+    /// The option as users write it.
+    pub(crate) fn name(self) -> &'static [u8]
+        ensures { result.now ≡ option_name self }
+    {
+        match self {
+            CallOption::Include => b"--include",
+            CallOption::Exclude => b"--exclude",
+            CallOption::FailUnderLines => b"--fail-under-lines",
+            CallOption::FailUnderFunctions => b"--fail-under-functions",
+            CallOption::FailUnderBranches => b"--fail-under-branches",
+            CallOption::List => b"--list",
+            CallOption::Json => b"--json",
+        }
+    }
+}
+
+/// Why a call isn't begun, although its command line was parsed.
+#[derive(Clone, Copy)]
+pub(crate) enum CallFault<'a> {
+    /// The option has more than 64 patterns.
+    ManyPatterns(CallOption),
+    /// A pattern of the option has more than 1,024 bytes.
+    LongPattern(CallOption),
+    /// The word of the option is no percentage.
+    NoRate(CallOption, &'a [u8]),
+    /// The option asks for an overview, but standard output has the tracefile.
+    NoRoom(CallOption),
+    /// No file is named.
+    NoName,
+    /// This file is named twice.
+    Twice(&'a str),
+}
+
+/// Why the work of a call can't begin.
+#[derive(Clone, Copy)]
+pub(crate) enum WorkFault<'a> {
+    /// The call is wrong.
+    Call(CallFault<'a>),
+    /// An allocation failed.
+    Memory,
+}
+
+impl<'a> From<Memory> for WorkFault<'a> {
+    ghost use Rattle.std.specs.Prelude.{◌≡◌};
+    ghost use Rattle.covcombine.specs.declared.call_fault.WorkFault.TheVariants as faults;
+
+    ghost from_gives = { λ _ f. f ≡ faults.Memory };
+
+    fn from(_refused: Memory) -> WorkFault<'a> {
+        WorkFault::Memory
+    }
+}

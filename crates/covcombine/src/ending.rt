@@ -1,0 +1,489 @@
+//! How a call ends.
+
+ghost use Rattle.std.specs.Prelude.{◌≡◌, ◌++◌, [], not, map, slice_get, unwrap_or, IfOk, OnOk};
+ghost use Rattle.std.specs.List.{list_all};
+ghost use Rattle.std.specs.String.{string_bytes};
+ghost use Rattle.covbook.specs.EntryView.{entry_data};
+ghost use Rattle.covbook.specs.View.{answer_data};
+ghost use Rattle.covreport.specs.ChoiceView.{choice_data};
+ghost use Rattle.covcombine.specs.Combine.{answer_status as status_of_answer, clash_lines, clash_of_answer, end_of as ends_with, failure_status as worst_status, failures as failures_of, given as given_of, is_clash as is_clash_answer, is_merged, is_whole as is_whole_call, judged_by, lines_by, merged_in, misfits_told, overview_text, pattern_lines, refusal_of, unexpected, unmatched, warning_of, warnings as warnings_of};
+ghost use Rattle.covcombine.specs.Combined.{of_call_fault, of_collecting, out_of_memory};
+ghost use Rattle.covcombine.specs.View.{ending_data, given_data, work_data};
+
+use crate::call_fault::{CallFault, CallOption};
+use crate::messages::{
+    put_call_fault, put_clash, put_expected, put_fault, put_misfits, put_no_record, put_none_left,
+    put_strange, put_unmatched, put_unreadable,
+};
+use crate::note::Note;
+use crate::work::Work;
+use covbook::{Answer, Answered};
+use covcommand::{Overview, Strictness, TotalsForm};
+use covdata::{Bytes, Memory};
+use covlimit::shortfall_lines;
+use covlist::{list_json, list_table, matches_a_file, summary_json, takes_a_file};
+use covnamed::{CollectedBook, Printing};
+use covreport::{Choice, Patterns, chosen_totals, summary_text};
+use covsession::{SessionFault, line_of};
+use covstore::Store;
+use covworkers::{CollectFault, RefusedInput};
+use covworld::ReadyText;
+use std::alloc::Global;
+
+/// How a call ends.
+#[derive(Drop)]
+pub(crate) enum Ending<'b> {
+    /// The call is stopped with status 3 and this line, which isn't allocated.
+    Stopped(&'static [u8]),
+    /// The call fails with this status and these lines.
+    Fails { status: u8, lines: Bytes },
+    /// The call has a tracefile.
+    Gives(Given<'b>),
+}
+
+/// What a call gives. All memory for printing is reserved.
+#[derive(Drop)]
+pub(crate) struct Given<'b> {
+    /// The warnings.
+    pub(crate) warnings: Bytes,
+    /// The merged tracefile.
+    pub(crate) tracefile: ReadyText<'b>,
+    /// What is shown of the tracefile if it goes into a file.
+    pub(crate) overview: ReadyText<'b>,
+    /// The lines about rates below their thresholds.
+    pub(crate) missed: Bytes,
+}
+
+/// The ending of a call for which memory ran out.
+pub(crate) fn no_memory<'b>() -> Ending<'b>
+    ensures { ending_data result ≡ out_of_memory }
+{
+    Ending::Stopped(line_of(SessionFault::Memory))
+}
+
+/// The ending of a call that isn't begun. `expected` is the number of files that the call expects.
+pub(crate) fn end_for_fault<'b>(
+    alloc: Global,
+    expected: Option<u32>,
+    fault: CallFault<'_>,
+) -> Result<Ending<'b>, Memory>
+    ensures { IfOk result (λ ending. ending_data ending ≡ of_call_fault expected fault) }
+{
+    let mut lines = Bytes::new(alloc);
+    put_call_fault(fault, &mut lines)?;
+    match (expected, fault) {
+        (Some(number), CallFault::NoName) => {
+            put_expected(u64::from(number), 0, &mut lines)?;
+            Ok(Ending::Fails { status: 5, lines })
+        }
+        _ => Ok(Ending::Fails { status: 2, lines }),
+    }
+}
+
+/// The ending of a call whose collecting stopped.
+pub(crate) fn end_for_collecting<'b>(fault: CollectFault) -> Ending<'b>
+    ensures { ending_data result ≡ of_collecting fault }
+{
+    match fault {
+        CollectFault::Full => Ending::Stopped(
+            b"the files have more than 1048576 pieces: combine them in parts\n",
+        ),
+        CollectFault::Memory => no_memory(),
+        CollectFault::BadJobs | CollectFault::Gather(_) | CollectFault::NotLast => {
+            Ending::Stopped(b"gather\n")
+        }
+    }
+}
+
+/// How a call ends after its files are collected.
+pub(crate) fn end_of<'b>(
+    alloc: Global,
+    work: Work<'_>,
+    collected: &'b CollectedBook<Note>,
+) -> Result<Ending<'b>, Memory>
+    ensures { IfOk result (λ ending. ending_data ending ≡ ends_with (work_data work) collected.now.book.entries collected.now.refused) }
+{
+    let warnings = warnings(alloc, &work, collected)?;
+    let failures = failures(alloc, &work, collected)?;
+    if failures.get().is_empty() {
+        let given = given(alloc, work, collected.book.store(), warnings)?;
+        return Ok(Ending::Gives(given));
+    }
+    let mut lines = warnings;
+    lines.append(failures.get())?;
+    Ok(Ending::Fails {
+        status: failure_status(collected.refused.get(), collected.book.kept()),
+        lines,
+    })
+}
+
+/// Prepares what a call gives of the chosen source files of `store`.
+fn given<'b>(
+    alloc: Global,
+    work: Work<'_>,
+    store: &'b Store,
+    warnings: Bytes,
+) -> Result<Given<'b>, Memory>
+    ensures { IfOk result (λ given. given_data given ≡ given_of warnings (work_data work) store.now.sections) }
+{
+    let Work {
+        choice,
+        overview,
+        form,
+        limits,
+        ..
+    } = work;
+    let overview = overview_of(alloc, overview, form, &choice, store)?;
+    let missed = shortfall_lines(alloc, &limits, &chosen_totals(store, &choice))?;
+    let tracefile = Printing::of_store(alloc, store, choice)?;
+    Ok(Given {
+        warnings,
+        tracefile: ReadyText::of(alloc, tracefile)?,
+        overview: ReadyText::of(alloc, Printing::of_text(overview))?,
+        missed,
+    })
+}
+
+/// The summary or the list of the chosen source files.
+fn overview_of(
+    alloc: Global,
+    overview: Overview,
+    form: TotalsForm,
+    choice: &Choice,
+    store: &Store,
+) -> Result<Bytes, Memory>
+    ensures { IfOk result (λ text. text ≡ overview_text overview form (choice_data choice.now) store.now.sections) }
+{
+    match (overview, form) {
+        (Overview::Summary, TotalsForm::Words) => {
+            summary_text(alloc, &chosen_totals(store, choice))
+        }
+        (Overview::Summary, TotalsForm::Json) => summary_json(alloc, &chosen_totals(store, choice)),
+        (Overview::List, TotalsForm::Words) => list_table(alloc, store, choice),
+        (Overview::List, TotalsForm::Json) => list_json(alloc, store, choice),
+    }
+}
+
+/// The warnings of a call: about files, in their order, and about patterns.
+fn warnings(
+    alloc: Global,
+    work: &Work<'_>,
+    collected: &CollectedBook<Note>,
+) -> Result<Bytes, Memory>
+    ensures { IfOk result (λ lines. lines ≡ warnings_of (work_data work.now) collected.now.book.entries collected.now.refused) }
+{
+    let mut lines = Bytes::new(alloc);
+    put_warnings(
+        work.strictness,
+        work.files,
+        collected.refused.get(),
+        &mut lines,
+    )?;
+    if let Strictness::Lenient = work.strictness {
+        put_judged(b"warning: ", &work.choice, collected, &mut lines)?;
+    }
+    Ok(lines)
+}
+
+/// Why a call fails: for files, in their order, for clashes, for the number of files, and for patterns.
+fn failures(
+    alloc: Global,
+    work: &Work<'_>,
+    collected: &CollectedBook<Note>,
+) -> Result<Bytes, Memory>
+    ensures { IfOk result (λ lines. lines ≡ failures_of (work_data work.now) collected.now.book.entries collected.now.refused) }
+{
+    let notes = collected.refused.get();
+    let mut lines = Bytes::new(alloc);
+    put_refusals(work.strictness, work.files, notes, &mut lines)?;
+    put_clashes(collected.book.kept(), &mut lines)?;
+    put_unexpected(work.expected, notes, &mut lines)?;
+    if let Strictness::Strict = work.strictness {
+        put_judged(b"", &work.choice, collected, &mut lines)?;
+    }
+    Ok(lines)
+}
+
+/// Appends the warnings about the files called `files`.
+fn put_warnings(
+    strictness: Strictness,
+    files: &[String],
+    notes: &[RefusedInput<Note>],
+    lines: &mut Bytes,
+) -> Result<(), Memory>
+    ensures { OnOk result (lines.new ≡ lines.old ++ lines_by (warning_of strictness) (map string_bytes files.now) notes.now) }
+{
+    for note in notes {
+        put_warning(
+            strictness,
+            file_name(files, note.index),
+            &note.fault,
+            lines,
+        )?;
+    }
+    Ok(())
+}
+
+/// Appends the warning about the file called `name`, if there is one.
+fn put_warning(
+    strictness: Strictness,
+    name: &str,
+    note: &Note,
+    lines: &mut Bytes,
+) -> Result<(), Memory>
+    ensures { OnOk result (lines.new ≡ lines.old ++ warning_of strictness name.now note.now) }
+{
+    match (strictness, note) {
+        (Strictness::Lenient, Note::Merged { misfits }) => {
+            put_if_misfits(b"warning: ", strictness, name, *misfits, lines)
+        }
+        _ => Ok(()),
+    }
+}
+
+/// Appends the line about lines of the file called `name` that don't fit, if there are any.
+fn put_if_misfits(
+    front: &[u8],
+    strictness: Strictness,
+    name: &str,
+    misfits: u64,
+    lines: &mut Bytes,
+) -> Result<(), Memory>
+    ensures { OnOk result (lines.new ≡ lines.old ++ misfits_told front.now strictness name.now misfits) }
+{
+    if misfits == 0 {
+        return Ok(());
+    }
+    put_misfits(front, strictness, name.as_bytes(), misfits, lines)
+}
+
+/// Appends a line for each of the files called `files` that fails the call.
+fn put_refusals(
+    strictness: Strictness,
+    files: &[String],
+    notes: &[RefusedInput<Note>],
+    lines: &mut Bytes,
+) -> Result<(), Memory>
+    ensures { OnOk result (lines.new ≡ lines.old ++ lines_by (refusal_of strictness) (map string_bytes files.now) notes.now) }
+{
+    for note in notes {
+        put_refusal(
+            strictness,
+            file_name(files, note.index),
+            &note.fault,
+            lines,
+        )?;
+    }
+    Ok(())
+}
+
+/// Appends the line about the file called `name`, if the file fails the call.
+fn put_refusal(
+    strictness: Strictness,
+    name: &str,
+    note: &Note,
+    lines: &mut Bytes,
+) -> Result<(), Memory>
+    ensures { OnOk result (lines.new ≡ lines.old ++ refusal_of strictness name.now note.now) }
+{
+    match (note, strictness) {
+        (Note::Unreadable, _) => put_unreadable(name.as_bytes(), lines),
+        (Note::Strange(kind), _) => put_strange(name.as_bytes(), *kind, lines),
+        (Note::NoRecord { begins, sections }, _) => {
+            put_no_record(name.as_bytes(), begins.get(), *sections, lines)
+        }
+        (Note::Faulty(fault), _) => put_fault(name.as_bytes(), *fault, lines),
+        (Note::Merged { .. }, Strictness::Lenient) => Ok(()),
+        (Note::Merged { misfits }, Strictness::Strict) => {
+            put_if_misfits(b"", strictness, name, *misfits, lines)
+        }
+    }
+}
+
+/// The name of the file at `index`; empty if the index is out of range.
+fn file_name(files: &[String], index: usize) -> &str
+    ensures { result.now ≡ unwrap_or (slice_get (map string_bytes files.now) index) [] }
+{
+    match files.get(index) {
+        Some(name) => name.as_str(),
+        None => "",
+    }
+}
+
+/// Appends a line for each clash among the answers.
+fn put_clashes(answers: &[Answered], lines: &mut Bytes) -> Result<(), Memory>
+    ensures { OnOk result (lines.new ≡ lines.old ++ clash_lines (map (λ k. entry_data (record k.entry.value { answer = k.answer })) answers.now)) }
+{
+    for answered in answers {
+        put_if_clash(&answered.answer, lines)?;
+    }
+    Ok(())
+}
+
+/// Appends the line about `answer` if it is a clash.
+fn put_if_clash(answer: &Answer, lines: &mut Bytes) -> Result<(), Memory>
+    ensures { OnOk result (lines.new ≡ lines.old ++ clash_of_answer (answer_data answer.now)) }
+{
+    match answer {
+        Answer::Clash {
+            file,
+            line,
+            held,
+            given,
+        } => put_clash(file.get(), *line, held.get(), given.get(), lines),
+        Answer::Accepted { .. }
+        | Answer::Dropped { .. }
+        | Answer::Renamed { .. }
+        | Answer::NoSuchTest
+        | Answer::Text(_) => Ok(()),
+    }
+}
+
+/// Appends the line about the number of files that were read, if another number is expected.
+fn put_unexpected(
+    expected: Option<u32>,
+    notes: &[RefusedInput<Note>],
+    lines: &mut Bytes,
+) -> Result<(), Memory>
+    ensures { OnOk result (lines.new ≡ lines.old ++ unexpected expected (merged_in notes.now)) }
+{
+    let Some(expected) = expected else {
+        return Ok(());
+    };
+    let read = count_merged(notes);
+    if u64::from(expected) == read {
+        return Ok(());
+    }
+    put_expected(u64::from(expected), read, lines)
+}
+
+/// How many files were merged.
+fn count_merged(notes: &[RefusedInput<Note>]) -> u64
+    ensures { result ≡ merged_in notes.now }
+{
+    let mut merged: u64 = 0;
+    for note in notes {
+        if note.fault.is_merged() {
+            merged += 1;
+        }
+    }
+    merged
+}
+
+/// Appends what is doubtful of the patterns, if the whole of all files was added up. `front` comes before the words of each line.
+fn put_judged(
+    front: &[u8],
+    choice: &Choice,
+    collected: &CollectedBook<Note>,
+    lines: &mut Bytes,
+) -> Result<(), Memory>
+    ensures { OnOk result (lines.new ≡ lines.old ++ judged_by front.now (choice_data choice.now) collected.now.book.entries collected.now.refused) }
+{
+    if !is_whole(collected) {
+        return Ok(());
+    }
+    put_patterns(front, choice, collected.book.store(), lines)
+}
+
+/// Whether each file was read, and all of it was added up.
+fn is_whole(collected: &CollectedBook<Note>) -> bool
+    ensures { result ≡ is_whole_call collected.now.book.entries collected.now.refused }
+{
+    are_merged(collected.refused.get()) && have_no_clash(collected.book.kept())
+}
+
+/// Whether each file was merged.
+fn are_merged(notes: &[RefusedInput<Note>]) -> bool
+    ensures { result ≡ list_all (λ n. is_merged n.fault) notes.now }
+{
+    for note in notes {
+        if !note.fault.is_merged() {
+            return false;
+        }
+    }
+    true
+}
+
+/// Whether no answer is a clash.
+fn have_no_clash(answers: &[Answered]) -> bool
+    ensures { result ≡ list_all (λ e. not (is_clash_answer e.answer)) (map (λ k. entry_data (record k.entry.value { answer = k.answer })) answers.now) }
+{
+    for answered in answers {
+        if is_clash(&answered.answer) {
+            return false;
+        }
+    }
+    true
+}
+
+/// Whether the answer is a clash.
+fn is_clash(answer: &Answer) -> bool
+    ensures { result ≡ is_clash_answer (answer_data answer.now) }
+{
+    match answer {
+        Answer::Clash { .. } => true,
+        Answer::Accepted { .. }
+        | Answer::Dropped { .. }
+        | Answer::Renamed { .. }
+        | Answer::NoSuchTest
+        | Answer::Text(_) => false,
+    }
+}
+
+/// Appends what is doubtful of the patterns of `choice`.
+fn put_patterns(
+    front: &[u8],
+    choice: &Choice,
+    store: &Store,
+    lines: &mut Bytes,
+) -> Result<(), Memory>
+    ensures { OnOk result (lines.new ≡ lines.old ++ pattern_lines front.now (choice_data choice.now) store.now.sections) }
+{
+    if let Choice::Filter { includes, excludes } = choice {
+        put_all_unmatched(front, CallOption::Include, includes, store, lines)?;
+        put_all_unmatched(front, CallOption::Exclude, excludes, store, lines)?;
+    }
+    if takes_a_file(choice, store) {
+        return Ok(());
+    }
+    put_none_left(front, lines)
+}
+
+/// Appends a line about each of the `patterns` of `option` that matches no source file.
+fn put_all_unmatched(
+    front: &[u8],
+    option: CallOption,
+    patterns: &Patterns,
+    store: &Store,
+    lines: &mut Bytes,
+) -> Result<(), Memory>
+    ensures { OnOk result (lines.new ≡ lines.old ++ unmatched front.now option store.now.sections patterns.now) }
+{
+    for pattern in patterns.get() {
+        if !matches_a_file(pattern.get(), store) {
+            put_unmatched(front, option, pattern.get(), lines)?;
+        }
+    }
+    Ok(())
+}
+
+/// The worst status of a call that fails, which is the least.
+fn failure_status(notes: &[RefusedInput<Note>], answers: &[Answered]) -> u8
+    ensures { result ≡ worst_status (map (λ k. entry_data (record k.entry.value { answer = k.answer })) answers.now) notes.now }
+{
+    let mut status = 5;
+    for note in notes {
+        status = status.min(note.fault.status());
+    }
+    for answered in answers {
+        status = status.min(answer_status(&answered.answer));
+    }
+    status
+}
+
+/// The exit status of a call that fails after this answer.
+fn answer_status(answer: &Answer) -> u8
+    ensures { result ≡ status_of_answer (answer_data answer.now) }
+{
+    if is_clash(answer) { 4 } else { 5 }
+}

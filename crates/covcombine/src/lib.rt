@@ -1,0 +1,149 @@
+//! The call `combine`: merges the tracefiles of many jobs, checks each of them, and shows how much is hit.
+//!
+//! `combine` makes `Work` of the options (`work`). covworkers collects the files in a book; a `Tracefile` reads a file when its turn
+//! comes, and ends with a `Note` of what came of the file. An `Ending` is made of the book and the notes (`ending`), and is reported
+//! on the streams and in the output file (`report`). `messages` has all lines of the error stream.
+//!
+//! A sketch, which no test runs: a call that merges files into `all.info`.
+//!
+//! ```text
+//! fn combine_into<R: Threads + Wait + Sync, F: Folder<File: Send> + Sync, P: OutputFolder, I: Source, O: Sink, E: Sink>(
+//!     rt: &R,
+//!     folder: &F,
+//!     alloc: Global,
+//!     options: &CombineOptions,
+//!     world: &mut World<P, I, O, E>,
+//! ) -> u8
+//!     requires { CanCall world.old }
+//! {
+//!     combine(rt, folder, alloc, options, Strictness::Lenient, Some("all.info"), world)
+//! }
+//! ```
+#![tactic(auto)]
+
+mod call_fault;
+mod ending;
+mod jobs;
+mod messages;
+mod note;
+mod opened;
+mod report;
+mod stop;
+mod stranger;
+mod tracefile;
+mod work;
+
+ghost use Rattle.std.specs.Prelude.{◌≡◌, ℕ, List, Option, option_map};
+ghost use Rattle.covworld.specs.Folder.{folder_data};
+ghost use Rattle.covworld.specs.World.{CanCall};
+ghost use Rattle.covcombine.specs.Combine.{EndingData};
+ghost use Rattle.covcombine.specs.Combined.{Ends, IsCombineCall, IsReported, StopsEarly};
+ghost use Rattle.covcombine.specs.Steps.{IsWorkFault};
+ghost use Rattle.covcombine.specs.View.{ending_data, work_data};
+
+use crate::call_fault::WorkFault;
+use crate::ending::{Ending, end_for_collecting, end_for_fault, end_of, no_memory};
+use crate::jobs::jobs_for;
+use crate::report::report;
+use crate::tracefile::tracefiles;
+use crate::work::{Work, work_of};
+use covcommand::{CombineOptions, Strictness};
+use covnamed::collect_into_book;
+use covstream::{Sink, Source};
+use covworkers::{IntoBookFault, NoGate};
+use covworld::{Folder, OutputFolder, World};
+use std::alloc::Global;
+use std::sync::Wait;
+use std::thread::Threads;
+
+/// Merges the files of `options`, reports how that ended, and returns the exit status. `file` is the name of the output file; without
+/// it the tracefile goes to the output.
+///
+/// The status is that of the first of these that applies, and the error stream has all lines that it asks for:
+/// - 2 if the options are wrong, or 5 if no file is named although some are expected;
+/// - 3 if memory ran out, or the files have too many chunks;
+/// - 1, 4 or 5 for the worst of what came of the files: one can't be read (1); one is invalid, or checksums clash (4); one is no
+///   tracefile, another number of files was read than is expected, or in a strict call something is doubtful (5);
+/// - 1 if the file or the output can't be written;
+/// - 6 if rates are below their thresholds.
+///
+/// A call that isn't strict warns of what is doubtful: lines that don't fit their section, and patterns that match no source file or
+/// leave none.
+pub fn combine<
+    R: Threads + Wait + Sync,
+    F: Folder<File: Send> + Sync,
+    P: OutputFolder,
+    I: Source,
+    O: Sink,
+    E: Sink,
+>(
+    rt: &R,
+    folder: &F,
+    alloc: Global,
+    options: &CombineOptions,
+    strictness: Strictness,
+    file: Option<&str>,
+    world: &mut World<P, I, O, E>,
+) -> u8
+    requires { CanCall world.old }
+    ensures { IsCombineCall (folder_data F.Folder F.File.Source folder.now) options.now strictness (option_map (λ name. name.now) file.entry) result world.old world.new }
+{
+    match work_of(alloc, options, strictness, file) {
+        Ok(work) => {
+            let jobs = jobs_for(rt, options.jobs, work.files.len());
+            do_work(rt, folder, alloc, work, jobs, file, world)
+        }
+        Err(fault) => report(alloc, early_end(alloc, options, fault), file, world),
+    }
+}
+
+/// The ending of a call whose work can't begin.
+fn early_end<'b>(alloc: Global, options: &CombineOptions, fault: WorkFault<'_>) -> Ending<'b>
+    ensures { (file : Option (List ℕ)) → IsWorkFault options.now file fault → StopsEarly options.now file (ending_data result) }
+{
+    let WorkFault::Call(fault) = fault else {
+        return no_memory();
+    };
+    match end_for_fault(alloc, options.expected, fault) {
+        Ok(ending) => ending,
+        Err(_) => no_memory(),
+    }
+}
+
+/// Does `work` with this number of jobs, reports how the work ended, and returns the exit status.
+fn do_work<
+    R: Threads + Wait + Sync,
+    F: Folder<File: Send> + Sync,
+    P: OutputFolder,
+    I: Source,
+    O: Sink,
+    E: Sink,
+>(
+    rt: &R,
+    folder: &F,
+    alloc: Global,
+    work: Work<'_>,
+    jobs: u32,
+    file: Option<&str>,
+    world: &mut World<P, I, O, E>,
+) -> u8
+    requires { CanCall world.old }
+    ensures input { world.new.input ≡ world.old.input }
+    ensures reported { (ending : EndingData) × Ends (folder_data F.Folder F.File.Source folder.now) jobs (work_data work) ending
+        × IsReported (option_map (λ name. name.now) file.entry) ending result world.old world.new }
+{
+    let Ok(inputs) = tracefiles(folder, alloc, work.strictness, work.files) else {
+        return report(alloc, no_memory(), file, world);
+    };
+    match collect_into_book(rt, alloc, inputs, jobs, &NoGate) {
+        Ok(collected) => match end_of(alloc, work, &collected) {
+            Ok(ending) => report(alloc, ending, file, world),
+            Err(_) => report(alloc, no_memory(), file, world),
+        },
+        Err(IntoBookFault::Collect(fault)) => {
+            report(alloc, end_for_collecting(fault), file, world)
+        }
+        // A file that can't be read has a note.
+        Err(IntoBookFault::Unread { .. }) => unreachable!(),
+    }
+}

@@ -1,0 +1,374 @@
+//! The lines on standard error. Each function appends whole lines, or a part of one.
+
+ghost use Rattle.std.specs.Prelude.{◌≡◌, ◌++◌, None, Some, OnOk, codes, decimal};
+ghost use Rattle.covlist.specs.Shown.{shown_name};
+ghost use Rattle.covcombine.specs.Messages.{begins_words, call_fault_line, clash_line, counted, cut_line, error_line, expected_line, fault_line, line_fault_words as words_of_line_fault, misfit_words as words_of_misfits, misfits_line, no_record_line, no_record_words, none_left_line, option_name, packed_words, quoted, quoted_byte, strange_words, told, told_at, unmatched_line, unreadable_line, unwritten_line};
+
+use crate::call_fault::{CallFault, CallOption};
+use crate::stranger::Stranger;
+use covcommand::Strictness;
+use covdata::{Bytes, LineFault, Memory, ReadFault};
+use covlist::put_shown_name;
+use itoa::Buffer;
+
+/// Appends a number in decimal.
+fn put_number(number: u64, lines: &mut Bytes) -> Result<(), Memory>
+    ensures { OnOk result (lines.new ≡ lines.old ++ decimal number) }
+{
+    let mut digits = Buffer::new();
+    lines.append(digits.format(number).as_bytes())
+}
+
+/// Appends a number and a space, and then `one` if the number is 1, otherwise `many`.
+fn put_counted(number: u64, one: &[u8], many: &[u8], lines: &mut Bytes) -> Result<(), Memory>
+    ensures { OnOk result (lines.new ≡ lines.old ++ counted number one.now many.now) }
+{
+    put_number(number, lines)?;
+    lines.append(b" ")?;
+    lines.append(if number == 1 { one } else { many })
+}
+
+/// Appends the name of the file that the line is about, and a colon.
+fn put_name(name: &[u8], lines: &mut Bytes) -> Result<(), Memory>
+    ensures { OnOk result (lines.new ≡ lines.old ++ (shown_name name.now ++ codes ": ")) }
+{
+    put_shown_name(name, lines)?;
+    lines.append(b": ")
+}
+
+/// Appends a line about a file: its name, and these words.
+fn put_told(name: &[u8], words: &[u8], lines: &mut Bytes) -> Result<(), Memory>
+    ensures { OnOk result (lines.new ≡ lines.old ++ told name.now words.now) }
+{
+    put_name(name, lines)?;
+    lines.append(words)?;
+    lines.append(b"\n")
+}
+
+/// Appends the file and the number of the line that a message is about, and a colon.
+fn put_place(name: &[u8], line: u64, lines: &mut Bytes) -> Result<(), Memory>
+    ensures { OnOk result (lines.new ≡ lines.old ++ (shown_name name.now ++ (codes ":" ++ (decimal line ++ codes ": ")))) }
+{
+    put_shown_name(name, lines)?;
+    lines.append(b":")?;
+    put_number(line, lines)?;
+    lines.append(b": ")
+}
+
+/// Appends a line about a line of a file: the file's name, the line's number, and these words.
+fn put_told_at(name: &[u8], line: u64, words: &[u8], lines: &mut Bytes) -> Result<(), Memory>
+    ensures { OnOk result (lines.new ≡ lines.old ++ told_at name.now line words.now) }
+{
+    put_place(name, line, lines)?;
+    lines.append(words)?;
+    lines.append(b"\n")
+}
+
+/// Appends the line about the file called `name`, which can't be read.
+pub(crate) fn put_unreadable(name: &[u8], lines: &mut Bytes) -> Result<(), Memory>
+    ensures { OnOk result (lines.new ≡ lines.old ++ unreadable_line name.now) }
+{
+    put_told(name, b"can't be read", lines)
+}
+
+/// Appends the line about the file called `name`, which is no tracefile but of this `kind`.
+pub(crate) fn put_strange(name: &[u8], kind: Stranger, lines: &mut Bytes) -> Result<(), Memory>
+    ensures { OnOk result (lines.new ≡ lines.old ++ told name.now (strange_words name.now kind)) }
+{
+    put_name(name, lines)?;
+    put_kind(name, kind, lines)?;
+    lines.append(b"\n")
+}
+
+/// Appends what the file called `name` is, and what to do with it.
+fn put_kind(name: &[u8], kind: Stranger, lines: &mut Bytes) -> Result<(), Memory>
+    ensures { OnOk result (lines.new ≡ lines.old ++ strange_words name.now kind) }
+{
+    match kind {
+        Stranger::Empty => lines.append(b"empty"),
+        Stranger::Gzip => put_packed(name, b"gzip", b"zcat", lines),
+        Stranger::Compress => put_packed(name, b"compress", b"zcat", lines),
+        Stranger::Bzip2 => put_packed(name, b"bzip2", b"bzcat", lines),
+        Stranger::Xz => put_packed(name, b"xz", b"xzcat", lines),
+        Stranger::Zstd => put_packed(name, b"zstd", b"zstdcat", lines),
+        Stranger::Zip => put_packed(name, b"zip", b"unzip -p", lines),
+        Stranger::Utf16 => lines.append(b"UTF-16 text (write it as UTF-8)"),
+        Stranger::Marked => lines.append(b"begins with a byte order mark (write it without)"),
+        Stranger::Gcda => lines.append(b"counts of gcc (let geninfo read them)"),
+    }
+}
+
+/// Appends that the file called `name` is packed, and how `program` unpacks it for this call.
+fn put_packed(
+    name: &[u8],
+    format: &[u8],
+    program: &[u8],
+    lines: &mut Bytes,
+) -> Result<(), Memory>
+    ensures { OnOk result (lines.new ≡ lines.old ++ packed_words name.now format.now program.now) }
+{
+    lines.append(b"packed by ")?;
+    lines.append(format)?;
+    lines.append(b" (unpack it first, or name it as <(")?;
+    lines.append(program)?;
+    lines.append(b" ")?;
+    put_quoted(name, lines)?;
+    lines.append(b"))")
+}
+
+/// Appends the name as a word of a shell command.
+fn put_quoted(name: &[u8], lines: &mut Bytes) -> Result<(), Memory>
+    ensures { OnOk result (lines.new ≡ lines.old ++ quoted name.now) }
+{
+    lines.append(b"'")?;
+    for byte in name {
+        put_quoted_byte(*byte, lines)?;
+    }
+    lines.append(b"'")
+}
+
+/// Appends a byte of a name that stands in single quotes.
+fn put_quoted_byte(byte: u8, lines: &mut Bytes) -> Result<(), Memory>
+    ensures { OnOk result (lines.new ≡ lines.old ++ quoted_byte byte) }
+{
+    if byte == b'\'' {
+        return lines.append(b"'\\''");
+    }
+    put_shown_name(&[byte], lines)
+}
+
+/// Appends the line about the file called `name`, a tracefile without items. `begins` is its first line.
+pub(crate) fn put_no_record(
+    name: &[u8],
+    begins: &[u8],
+    sections: u64,
+    lines: &mut Bytes,
+) -> Result<(), Memory>
+    ensures { OnOk result (lines.new ≡ lines.old ++ no_record_line name.now begins.now sections) }
+{
+    put_name(name, lines)?;
+    lines.append(b"no record (")?;
+    put_no_record_words(begins, sections, lines)?;
+    lines.append(b")\n")
+}
+
+/// Appends what a tracefile without items has.
+fn put_no_record_words(begins: &[u8], sections: u64, lines: &mut Bytes) -> Result<(), Memory>
+    ensures { OnOk result (lines.new ≡ lines.old ++ no_record_words begins.now sections) }
+{
+    if sections == 0 {
+        return put_begins(begins, lines);
+    }
+    lines.append(b"no count in its ")?;
+    put_counted(sections, b"section", b"sections", lines)
+}
+
+/// Appends how a file begins whose first line is `begins`.
+fn put_begins(begins: &[u8], lines: &mut Bytes) -> Result<(), Memory>
+    ensures { OnOk result (lines.new ≡ lines.old ++ begins_words begins.now) }
+{
+    if begins.is_empty() {
+        return lines.append(b"begins with an empty line");
+    }
+    lines.append(b"begins with \"")?;
+    put_shown_name(begins, lines)?;
+    lines.append(b"\"")
+}
+
+/// Appends the line about an error of the file called `name`.
+pub(crate) fn put_fault(name: &[u8], fault: ReadFault, lines: &mut Bytes) -> Result<(), Memory>
+    ensures { OnOk result (lines.new ≡ lines.old ++ fault_line name.now fault) }
+{
+    match fault {
+        ReadFault::Line { at, fault } => put_told_at(name, at, line_fault_words(fault), lines),
+        ReadFault::Outside { at } => put_told_at(
+            name,
+            at,
+            b"the line stands in no section: is the beginning of the file missing?",
+            lines,
+        ),
+        ReadFault::Inside { at } => put_told_at(
+            name,
+            at,
+            b"the line stands in a section that isn't ended: were two files joined?",
+            lines,
+        ),
+        ReadFault::Misplaced { at } => put_told_at(
+            name,
+            at,
+            b"no FNL line of this index stands above the line in its section",
+            lines,
+        ),
+        ReadFault::OpenEnd => put_told(
+            name,
+            b"ends within a section: was its writer killed, or a disk full?",
+            lines,
+        ),
+        ReadFault::TooLong => put_told(
+            name,
+            b"no section ends within 64 MiB: is it a tracefile?",
+            lines,
+        ),
+        _ => put_told(name, b"refused", lines),
+    }
+}
+
+/// What is wrong with a line by itself.
+fn line_fault_words(fault: LineFault) -> &'static [u8]
+    ensures { result.now ≡ words_of_line_fault fault }
+{
+    match fault {
+        LineFault::BadLine => b"the fields don't fit the line's key: was the file cut here?",
+        LineFault::NumberTooLarge => b"a number is too large",
+        LineFault::EmptyPath => b"no source file is named",
+    }
+}
+
+/// Appends the line about `number` lines of the file called `name` that don't fit. `front` comes before the words.
+pub(crate) fn put_misfits(
+    front: &[u8],
+    strictness: Strictness,
+    name: &[u8],
+    number: u64,
+    lines: &mut Bytes,
+) -> Result<(), Memory>
+    ensures { OnOk result (lines.new ≡ lines.old ++ misfits_line front.now strictness name.now number) }
+{
+    put_name(name, lines)?;
+    lines.append(front)?;
+    put_counted(number, b"line doesn't fit", b"lines don't fit", lines)?;
+    lines.append(misfit_words(strictness))?;
+    lines.append(b"\n")
+}
+
+/// Which lines don't fit.
+fn misfit_words(strictness: Strictness) -> &'static [u8]
+    ensures { result.now ≡ words_of_misfits strictness }
+{
+    match strictness {
+        Strictness::Lenient => b": wrong totals, or counts of functions that start nowhere",
+        Strictness::Strict => {
+            b": wrong totals, counts of functions that start nowhere, or unknown keys"
+        }
+    }
+}
+
+/// Appends the line about a pattern of `option` that matches no source file. `front` comes before the words.
+pub(crate) fn put_unmatched(
+    front: &[u8],
+    option: CallOption,
+    pattern: &[u8],
+    lines: &mut Bytes,
+) -> Result<(), Memory>
+    ensures { OnOk result (lines.new ≡ lines.old ++ unmatched_line front.now (option_name option) pattern.now) }
+{
+    lines.append(front)?;
+    lines.append(option.name())?;
+    lines.append(b" ")?;
+    put_shown_name(pattern, lines)?;
+    lines.append(b": matches no source file\n")
+}
+
+/// Appends the line about patterns that leave no source file. `front` comes before the words.
+pub(crate) fn put_none_left(front: &[u8], lines: &mut Bytes) -> Result<(), Memory>
+    ensures { OnOk result (lines.new ≡ lines.old ++ none_left_line front.now) }
+{
+    lines.append(front)?;
+    lines.append(b"--include and --exclude leave no source file\n")
+}
+
+/// Appends the line about two different checksums, `held` and `given`, of a line of the source file called `file`.
+pub(crate) fn put_clash(
+    file: &[u8],
+    line: u64,
+    held: &[u8],
+    given: &[u8],
+    lines: &mut Bytes,
+) -> Result<(), Memory>
+    ensures { OnOk result (lines.new ≡ lines.old ++ clash_line (record { file = file.now; line = line; held = held.now; given = given.now })) }
+{
+    put_place(file, line, lines)?;
+    lines.append(b"checksum ")?;
+    put_shown_name(given, lines)?;
+    lines.append(b", but ")?;
+    put_shown_name(held, lines)?;
+    lines.append(b" in an earlier record: two versions of the source?\n")
+}
+
+/// Appends the line about another number of files than the expected one.
+pub(crate) fn put_expected(expected: u64, read: u64, lines: &mut Bytes) -> Result<(), Memory>
+    ensures { OnOk result (lines.new ≡ lines.old ++ expected_line expected read) }
+{
+    lines.append(b"expected ")?;
+    put_counted(expected, b"file", b"files", lines)?;
+    lines.append(b", but read ")?;
+    put_number(read, lines)?;
+    lines.append(b"\n")
+}
+
+/// Appends the line about the file called `name`, which can't be written.
+pub(crate) fn put_unwritten(name: &[u8], lines: &mut Bytes) -> Result<(), Memory>
+    ensures { OnOk result (lines.new ≡ lines.old ++ unwritten_line name.now) }
+{
+    put_told(name, b"can't be written", lines)
+}
+
+/// The line about standard output that can't be written, if no file is written.
+pub(crate) fn cut() -> &'static [u8]
+    ensures { result.now ≡ cut_line None }
+{
+    b"standard output can't be written\n"
+}
+
+/// Appends the line about standard output that can't be written after the file called `name`.
+pub(crate) fn put_cut(name: &[u8], lines: &mut Bytes) -> Result<(), Memory>
+    ensures { OnOk result (lines.new ≡ lines.old ++ cut_line (Some name.now)) }
+{
+    lines.append(b"standard output can't be written, but ")?;
+    put_shown_name(name, lines)?;
+    lines.append(b" is\n")
+}
+
+/// Appends the line about a wrong call.
+pub(crate) fn put_call_fault(fault: CallFault<'_>, lines: &mut Bytes) -> Result<(), Memory>
+    ensures { OnOk result (lines.new ≡ lines.old ++ call_fault_line fault) }
+{
+    match fault {
+        CallFault::ManyPatterns(option) => put_error(option, b": more than 64 patterns", lines),
+        CallFault::LongPattern(option) => {
+            put_error(option, b": a pattern has more than 1024 bytes", lines)
+        }
+        CallFault::NoRate(option, word) => put_no_rate(option, word, lines),
+        CallFault::NoRoom(option) => put_error(
+            option,
+            b": needs -o FILE, since standard output has the tracefile",
+            lines,
+        ),
+        CallFault::NoName => {
+            lines.append(b"error: no file is named: did a pattern match nothing?\n")
+        }
+        CallFault::Twice(name) => put_told(name.as_bytes(), b"named twice", lines),
+    }
+}
+
+/// Appends a line about a wrong `option`: the option, and these words.
+fn put_error(option: CallOption, words: &[u8], lines: &mut Bytes) -> Result<(), Memory>
+    ensures { OnOk result (lines.new ≡ lines.old ++ error_line (option_name option ++ words.now)) }
+{
+    lines.append(b"error: ")?;
+    lines.append(option.name())?;
+    lines.append(words)?;
+    lines.append(b"\n")
+}
+
+/// Appends the line about the `word` of `option`, which is no percentage.
+fn put_no_rate(option: CallOption, word: &[u8], lines: &mut Bytes) -> Result<(), Memory>
+    ensures { OnOk result (lines.new ≡ lines.old ++ error_line (option_name option
+        ++ (codes " " ++ (shown_name word.now ++ codes ": a number from 0 to 100 with at most six decimals was expected")))) }
+{
+    lines.append(b"error: ")?;
+    lines.append(option.name())?;
+    lines.append(b" ")?;
+    put_shown_name(word, lines)?;
+    lines.append(b": a number from 0 to 100 with at most six decimals was expected\n")
+}

@@ -1,0 +1,106 @@
+//! The notes of files: what came of each.
+
+ghost use Rattle.std.specs.Prelude.{◌≡◌, IfOk};
+ghost use Rattle.covcombine.specs.Notes.{note_of as note_with};
+
+use crate::stranger::{Stranger, first_line};
+use covdata::{Bytes, Memory, ReadFault};
+use covpacked::PackedSubmission;
+use std::alloc::Global;
+
+/// How many sections, items and inconsistent lines (`odd`) the chunks of a tracefile have so far. Numbers saturate at 2^64 - 1.
+#[derive(Clone, Copy)]
+pub(crate) struct Counts {
+    pub(crate) sections: u64,
+    pub(crate) items: u64,
+    pub(crate) odd: u64,
+}
+
+impl Counts {
+    ghost use Rattle.std.specs.Prelude.{◌≡◌, [], ◌∷◌};
+    ghost use Rattle.covcombine.specs.Steps.{counts_with, no_counts};
+
+    /// The counts before the first chunk.
+    pub(crate) fn none() -> Counts
+        ensures { result ≡ no_counts }
+    {
+        Counts {
+            sections: 0,
+            items: 0,
+            odd: 0,
+        }
+    }
+
+    /// The counts with those of one more chunk.
+    pub(crate) fn and(self, submission: &PackedSubmission) -> Counts
+        ensures { result ≡ counts_with self (submission.now ∷ []) }
+    {
+        Counts {
+            sections: self.sections.saturating_add(submission.sections()),
+            items: self.items.saturating_add(submission.items()),
+            odd: self.odd.saturating_add(submission.odd()),
+        }
+    }
+}
+
+/// What came of a file.
+#[derive(Drop)]
+pub(crate) enum Note {
+    /// The file can't be read.
+    Unreadable,
+    /// The first bytes are those of another kind of file.
+    Strange(Stranger),
+    /// The tracefile has no item. `begins` is its first line, as far as the line was looked at.
+    NoRecord { begins: Bytes, sections: u64 },
+    /// The tracefile is invalid.
+    Faulty(ReadFault),
+    /// The tracefile was merged. `misfits` is the number of lines that don't fit.
+    Merged { misfits: u64 },
+}
+
+impl Note {
+    ghost use Rattle.std.specs.Prelude.{◌≡◌};
+    ghost use Rattle.covcombine.specs.Combine.{is_merged as is_merged_note, note_status};
+
+    /// Whether the tracefile was merged.
+    pub(crate) fn is_merged(&self) -> bool
+        ensures { result ≡ is_merged_note self.now }
+    {
+        match self {
+            Note::Merged { .. } => true,
+            Note::Unreadable | Note::Strange(_) | Note::NoRecord { .. } | Note::Faulty(_) => false,
+        }
+    }
+
+    /// The exit status of a call that fails for this file.
+    pub(crate) fn status(&self) -> u8
+        ensures { result ≡ note_status self.now }
+    {
+        match self {
+            Note::Unreadable => 1,
+            Note::Faulty(_) => 4,
+            Note::Strange(_) | Note::NoRecord { .. } | Note::Merged { .. } => 5,
+        }
+    }
+}
+
+/// The note of a tracefile that was read to its end. `first` are its first bytes, and `unknown` is the number of its lines of unknown
+/// keys.
+pub(crate) fn note_of(
+    alloc: Global,
+    first: &[u8],
+    counts: Counts,
+    unknown: u64,
+) -> Result<Note, Memory>
+    ensures { IfOk result (λ note. note ≡ note_with first.now counts unknown) }
+{
+    if counts.items == 0 {
+        return Ok(Note::NoRecord {
+            begins: Bytes::of(alloc, first_line(first))?,
+            sections: counts.sections,
+        });
+    }
+    Ok(Note::Merged {
+        misfits: counts.odd.saturating_add(unknown),
+    })
+}

@@ -1,0 +1,162 @@
+//! Opened tracefiles, and how far a file is read.
+
+ghost use Rattle.std.specs.Prelude.{◌≡◌, ◌≤◌, ◌++◌, ◌^◌, ℕ, List, Option, Result, length, option_map, IfOk, IfErr};
+ghost use Rattle.covdata.specs.Row.{SubmissionData};
+ghost use Rattle.covdata.specs.declared.fault.ReadFault.{ReadFault as Fault};
+ghost use Rattle.covdata.specs.declared.version.LcovVersion.TheVariants.{Two};
+ghost use Rattle.covlarge.specs.Large.{MayBeReadAs, max_pieces};
+ghost use Rattle.covlarge.specs.State.{MayGive};
+ghost use Rattle.covlarge.specs.Summary.{SummaryData};
+ghost use Rattle.covstream.specs.Blocks.{HasReadAtMost, IsReadFault};
+ghost use Rattle.covworld.specs.Folder.{folder_data};
+ghost use Rattle.covcombine.specs.Notes.{IsOfFile};
+ghost use Rattle.covcombine.specs.Steps.{EndsWith, IsOpenedFor, IsToldFor, unknown_told};
+ghost use Rattle.covcombine.specs.Strangers.{first_bytes};
+ghost use Rattle.covcombine.specs.declared.opened.Stage.TheVariants.{Unopened};
+
+use crate::note::{Counts, Note, note_of};
+use crate::stop::Stop;
+use crate::stranger::{FIRST_BYTES, strange_of};
+use covbook::PackedRef;
+use covcommand::{LcovVersion, Strictness};
+use covdata::Bytes;
+use covlarge::{Held, LargeTracefile, NextPiece};
+use covstream::{BlockFault, Source, read_at_most};
+use covworkers::Given;
+use covworld::Folder;
+use std::alloc::Global;
+
+/// How far a file is read.
+#[derive(Drop)]
+pub(crate) enum Stage<S: Source> {
+    /// The file isn't opened yet.
+    Unopened,
+    /// Some chunks may follow.
+    Reading(Opened<S>),
+    /// All chunks are read. Only the note is left.
+    Ended(Note),
+}
+
+/// An opened tracefile: its first bytes, what its chunks have so far, and the chunks to come.
+#[derive(Drop)]
+pub(crate) struct Opened<S: Source> {
+    first: Bytes,
+    counts: Counts,
+    rest: LargeTracefile<S>,
+}
+
+impl<S: Source + Drop> Opened<S> {
+    ghost use Rattle.std.specs.Prelude.{◌≡◌, IfOk, IfErr};
+    ghost use Rattle.covcombine.specs.Steps.{EndsWith, IsNextStage, MayGiveOpened};
+
+    /// How many more chunks may be read.
+    pub(crate) fn most_pieces(&self) -> u64
+        ensures { result ≡ self.now.rest.left }
+    {
+        self.rest.most_pieces()
+    }
+
+    /// Reads the next chunk. Returns the chunk's submission and the next stage.
+    pub(crate) fn next_stage(self, alloc: Global) -> Result<(Given, Stage<S>), Stop>
+        ensures next { IfOk result (λ r. IsNextStage S.left S.failed_reads self r.0 r.1) }
+        ensures ended { IfErr result (EndsWith (MayGiveOpened S.left S.failed_reads self.first self.counts self.rest)) }
+    {
+        let Opened {
+            first,
+            counts,
+            rest,
+        } = self;
+        match rest.next_piece(alloc)? {
+            NextPiece::More(submission, rest) => {
+                let counts = counts.and(&submission);
+                let given = Given::packed(PackedRef::of(alloc, submission)?);
+                Ok((
+                    given,
+                    Stage::Reading(Opened {
+                        first,
+                        counts,
+                        rest,
+                    }),
+                ))
+            }
+            NextPiece::Last(submission, held) => {
+                let counts = counts.and(&submission);
+                let note = note_of(alloc, first.get(), counts, unknown_in(&held))?;
+                let given = Given::packed(PackedRef::of(alloc, submission)?);
+                Ok((given, Stage::Ended(note)))
+            }
+        }
+    }
+}
+
+/// The number of lines of unknown keys; 0 without a summary.
+fn unknown_in(held: &Option<Held>) -> u64
+    ensures { result ≡ unknown_told held.now }
+{
+    match held {
+        Some(held) => held.summary().skipped,
+        None => 0,
+    }
+}
+
+/// Opens the file called `name`, and looks at its first bytes. A file that is no tracefile ends with its note.
+pub(crate) fn open<F: Folder>(
+    folder: &F,
+    alloc: Global,
+    name: &str,
+    strictness: Strictness,
+) -> Result<Opened<F::File>, Stop>
+    ensures opened { IfOk result (IsOpenedFor F.File.left F.File.failed_reads (folder_data F.Folder F.File.Source folder.now) strictness name.now Unopened) }
+    ensures ended { IfErr result (EndsWith (IsOfFile (folder_data F.Folder F.File.Source folder.now) strictness name.now)) }
+{
+    let Ok(file) = folder.open(name) else {
+        return Err(Stop::Ended(Note::Unreadable));
+    };
+    let mut source = file.source;
+    let first = read_first(alloc, &mut source)?;
+    if let Some(kind) = strange_of(first.get()) {
+        return Err(Stop::Ended(Note::Strange(kind)));
+    }
+    let rest = begin(alloc, strictness, first.copy(alloc)?, source);
+    Ok(Opened {
+        first,
+        counts: Counts::none(),
+        rest,
+    })
+}
+
+/// Reads the first bytes of `source`.
+fn read_first<S: Source>(alloc: Global, source: &mut S) -> Result<Bytes, BlockFault>
+    requires reads { S.reads source.old ≡ 0 }
+    requires failed_reads { S.failed_reads source.old ≡ 0 }
+    ensures read { IfOk result (HasReadAtMost first_bytes (S.left source.old) (S.left source.new)) }
+    ensures few { IfOk result (λ first. length first ≤ first_bytes) }
+    ensures counted { IfOk result (λ _. S.reads source.new ≤ 2 ^ 28) }
+    ensures good { IfOk result (λ _. S.failed_reads source.new ≡ 0) }
+    ensures failed { IfErr result (IsReadFault (S.left source.old) (S.left source.new) (S.failed_reads source.old) (S.failed_reads source.new)) }
+{
+    let mut block = [0; FIRST_BYTES];
+    read_at_most(Bytes::new(alloc), source, &mut block, FIRST_BYTES)
+}
+
+/// Opens a tracefile of LCOV 1 or 2 whose first bytes, `first`, were read from `source`. Only a strict call collects a summary, which
+/// has the number of lines of unknown keys.
+fn begin<S: Source + Drop>(
+    alloc: Global,
+    strictness: Strictness,
+    first: Bytes,
+    source: S,
+) -> LargeTracefile<S>
+    requires reads { S.reads source ≤ 2 ^ 28 }
+    requires failed_reads { S.failed_reads source ≡ 0 }
+    ensures whole { (read : List SubmissionData) (end : Result (Option SummaryData) Fault) → MayGive S.left result read end
+        → MayBeReadAs Two (option_map (λ more. first ++ more) (S.left source)) read end }
+    ensures told { (read : List SubmissionData) (end : Result (Option SummaryData) Fault) → MayGive S.left result read end → IsToldFor strictness end }
+    ensures source { result.source ≡ source }
+    ensures left { result.left ≡ max_pieces }
+{
+    match strictness {
+        Strictness::Lenient => LargeTracefile::new_after(alloc, LcovVersion::Two, first, source),
+        Strictness::Strict => LargeTracefile::summed_after(alloc, LcovVersion::Two, first, source),
+    }
+}

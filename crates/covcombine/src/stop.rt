@@ -1,0 +1,71 @@
+//! Why a file gives no further chunk.
+
+use crate::note::Note;
+use covdata::Memory;
+use covlarge::PieceFault;
+use covstream::BlockFault;
+use covworkers::LateFault;
+
+/// Why a file gives no further chunk.
+#[derive(Drop)]
+pub(crate) enum Stop {
+    /// The file ends with this note.
+    Ended(Note),
+    /// An allocation failed.
+    Memory,
+}
+
+impl Stop {
+    ghost use Rattle.std.specs.Prelude.{◌≡◌};
+    ghost use Rattle.covcombine.specs.Steps.{of_stop};
+
+    /// Turns the reason into what collecting takes: a note stands where an error would.
+    pub(crate) fn into_fault(self) -> LateFault<Note>
+        ensures { result ≡ of_stop self }
+    {
+        match self {
+            Stop::Ended(note) => LateFault::Refused(note),
+            Stop::Memory => LateFault::Memory,
+        }
+    }
+}
+
+impl From<Memory> for Stop {
+    ghost use Rattle.std.specs.Prelude.{◌≡◌};
+    ghost use Rattle.covcombine.specs.declared.stop.Stop.TheVariants as stops;
+
+    ghost from_gives = { λ _ stop. stop ≡ stops.Memory };
+
+    fn from(_refused: Memory) -> Stop {
+        Stop::Memory
+    }
+}
+
+impl From<BlockFault> for Stop {
+    ghost use Rattle.std.specs.Prelude.{◌≡◌};
+    ghost use Rattle.covcombine.specs.Steps.{of_block};
+
+    ghost from_gives = { λ fault stop. stop ≡ of_block fault };
+
+    fn from(fault: BlockFault) -> Stop {
+        match fault {
+            BlockFault::Unreadable => Stop::Ended(Note::Unreadable),
+            BlockFault::Memory => Stop::Memory,
+        }
+    }
+}
+
+impl From<PieceFault> for Stop {
+    ghost use Rattle.std.specs.Prelude.{◌≡◌};
+    ghost use Rattle.covcombine.specs.Steps.{of_piece};
+
+    ghost from_gives = { λ fault stop. stop ≡ of_piece fault };
+
+    fn from(fault: PieceFault) -> Stop {
+        match fault {
+            PieceFault::Refused(fault) => Stop::Ended(Note::Faulty(fault)),
+            PieceFault::Unreadable => Stop::Ended(Note::Unreadable),
+            PieceFault::Memory => Stop::Memory,
+        }
+    }
+}

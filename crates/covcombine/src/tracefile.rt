@@ -1,0 +1,117 @@
+//! Files as inputs of collecting.
+
+use crate::note::Note;
+use crate::opened::{Opened, Stage, open};
+use crate::stop::Stop;
+use covcommand::Strictness;
+use covdata::Memory;
+use covlarge::MAX_PIECES;
+use covworkers::{LateFault, LateInput, Part};
+use covworld::Folder;
+use std::alloc::Global;
+
+/// A file that is read in chunks when its turn comes. Collecting gets its note as the error with which the file ends, after all
+/// chunks of a good file too.
+#[derive(Drop)]
+pub(crate) struct Tracefile<'a, F: Folder> {
+    folder: &'a F,
+    name: &'a str,
+    strictness: Strictness,
+    stage: Stage<F::File>,
+}
+
+impl<'a, F: Folder> LateInput<Global> for Tracefile<'a, F> {
+    ghost use Rattle.covcombine.specs.Steps.{MayGiveFrom, most_parts};
+    ghost use Rattle.covworld.specs.Folder.{folder_data};
+
+    ghost may_give = { λ late. MayGiveFrom F.File.left F.File.failed_reads (folder_data F.Folder F.File.Source late.folder.now) late.strictness late.name.now late.stage };
+
+    // A file that can't be read has a note.
+    ghost may_fail = { λ _. ⊥ };
+
+    ghost most = { λ late. most_parts late.stage };
+
+    type Fault = Note;
+
+    /// Reads the next chunk, and opens the file before the first one.
+    fn read_part(self, alloc: Global) -> Result<Part<Self>, LateFault<Note>> {
+        let Tracefile {
+            folder,
+            name,
+            strictness,
+            stage,
+        } = self;
+        let opened = match opened_at(folder, alloc, name, strictness, stage) {
+            Ok(opened) => opened,
+            Err(stop) => return Err(stop.into_fault()),
+        };
+        match opened.next_stage(alloc) {
+            Ok((given, stage)) => Ok(Part::More(
+                given,
+                Tracefile {
+                    folder,
+                    name,
+                    strictness,
+                    stage,
+                },
+            )),
+            Err(stop) => Err(stop.into_fault()),
+        }
+    }
+
+    /// The number of chunks that may still be read.
+    fn most_parts(&self) -> u64 {
+        match &self.stage {
+            Stage::Unopened => MAX_PIECES,
+            Stage::Reading(opened) => opened.most_pieces(),
+            Stage::Ended(_) => 0,
+        }
+    }
+}
+
+ghost use Rattle.std.specs.Prelude.{◌≡◌, map, IfOk, IfErr};
+ghost use Rattle.std.specs.List.{AllByRecursion};
+ghost use Rattle.std.specs.String.{string_bytes};
+ghost use Rattle.covworld.specs.Folder.{folder_data};
+ghost use Rattle.covcombine.specs.Steps.{EndsWith, IsOpenedFor, MayGiveFrom};
+ghost use Rattle.covcombine.specs.declared.opened.Stage.TheVariants.{Unopened};
+
+/// Returns the tracefile that is open at this stage, and opens it if it isn't yet.
+fn opened_at<F: Folder>(
+    folder: &F,
+    alloc: Global,
+    name: &str,
+    strictness: Strictness,
+    stage: Stage<F::File>,
+) -> Result<Opened<F::File>, Stop>
+    ensures opened { IfOk result (IsOpenedFor F.File.left F.File.failed_reads (folder_data F.Folder F.File.Source folder.now) strictness name.now stage) }
+    ensures ended { IfErr result (EndsWith (MayGiveFrom F.File.left F.File.failed_reads (folder_data F.Folder F.File.Source folder.now) strictness name.now stage)) }
+{
+    match stage {
+        Stage::Unopened => open(folder, alloc, name, strictness),
+        Stage::Reading(opened) => Ok(opened),
+        Stage::Ended(note) => Err(Stop::Ended(note)),
+    }
+}
+
+/// Makes an input for each of the files called `names`, in order. Opens no file yet.
+pub(crate) fn tracefiles<'a, F: Folder>(
+    folder: &'a F,
+    alloc: Global,
+    strictness: Strictness,
+    names: &'a [String],
+) -> Result<Vec<Tracefile<'a, F>>, Memory>
+    ensures names { IfOk result (λ inputs. map (λ i. i.name.now) inputs.items ≡ map string_bytes names.now) }
+    ensures own { IfOk result (λ inputs. AllByRecursion (λ i. (i.folder.now ≡ folder.now) × (i.strictness ≡ strictness) × (i.stage ≡ Unopened)) inputs.items) }
+{
+    let mut inputs = Vec::with_capacity(alloc, names.len())?;
+    for name in names {
+        inputs.push(Tracefile {
+            folder,
+            name: name.as_str(),
+            strictness,
+            stage: Stage::Unopened,
+        })?;
+    }
+    Ok(inputs)
+}

@@ -1,0 +1,181 @@
+//! The work of a call, made of its options.
+
+ghost use Rattle.std.specs.Prelude.{◌≡◌, ℕ, List, Option, map, option_map, IfOk, IfErr, IfSome};
+ghost use Rattle.std.specs.String.{string_bytes};
+ghost use Rattle.covlimit.specs.LimitsView.{limits_data};
+ghost use Rattle.covlimit.specs.Rates.{IsRate};
+ghost use Rattle.covreport.specs.ChoiceView.{choice_data};
+ghost use Rattle.covcombine.specs.declared.call_fault.CallOption.{CallOption as AnOption};
+ghost use Rattle.covcombine.specs.Options.{IsWorkOf, choice_by, limits_of as limits_with, limit_in, patterns_in};
+ghost use Rattle.covcombine.specs.Steps.{AreNames, ArePatterns, HasRoom, IsNameFault, IsPatternFault, IsRateFault, IsTwiceIfAny, IsWorkFault, of_pattern};
+ghost use Rattle.covcombine.specs.View.{work_data};
+
+use crate::call_fault::{CallFault, CallOption, WorkFault};
+use covcommand::{CombineOptions, Limits as LimitWords, Overview, SourceFilter, Strictness, TotalsForm};
+use covdata::{Bytes, Memory};
+use covlimit::{Limits, Rate};
+use covreport::{Choice, PatternFault, Patterns};
+use std::alloc::Global;
+use std::collections::BTreeSet;
+
+/// The work of a call.
+#[derive(Drop)]
+pub(crate) struct Work<'a> {
+    /// The files to read.
+    pub(crate) files: &'a [String],
+    /// Whether doubtful files and patterns are refused.
+    pub(crate) strictness: Strictness,
+    /// The source files that are printed and counted.
+    pub(crate) choice: Choice,
+    /// What is shown of a tracefile that goes into a file.
+    pub(crate) overview: Overview,
+    /// How the overview's totals are printed.
+    pub(crate) form: TotalsForm,
+    /// The thresholds.
+    pub(crate) limits: Limits,
+    /// How many files have to be read.
+    pub(crate) expected: Option<u32>,
+}
+
+/// Makes the work of `options`. `file` is the name of the output file, if the command line has one. Checks the patterns first, then
+/// the thresholds, whether an overview can be shown, and the names of the files.
+pub(crate) fn work_of<'a>(
+    alloc: Global,
+    options: &'a CombineOptions,
+    strictness: Strictness,
+    file: Option<&str>,
+) -> Result<Work<'a>, WorkFault<'a>>
+    ensures work { IfOk result (λ work. IsWorkOf options.now strictness (option_map (λ name. name.now) file.entry) (work_data work)) }
+    ensures fault { IfErr result (IsWorkFault options.now (option_map (λ name. name.now) file.entry)) }
+{
+    let choice = choice_of(alloc, &options.filter)?;
+    let limits = limits_of(alloc, &options.limits)?;
+    check_overview(options, file)?;
+    check_names(alloc, options.names.get())?;
+    Ok(Work {
+        files: options.names.get(),
+        strictness,
+        choice,
+        overview: options.overview,
+        form: options.form,
+        limits,
+        expected: options.expected,
+    })
+}
+
+/// The source files that `filter` chooses: all of them without patterns.
+fn choice_of<'a>(alloc: Global, filter: &SourceFilter) -> Result<Choice, WorkFault<'a>>
+    ensures choice { IfOk result (λ choice. choice_data choice ≡ choice_by filter.now.includes filter.now.excludes) }
+    ensures taken { IfOk result (λ _. (option : AnOption) → ArePatterns (patterns_in option filter.now)) }
+    ensures fault { IfErr result (λ fault. (option : AnOption) × IsPatternFault option (patterns_in option filter.now) fault) }
+{
+    let includes = patterns_of(alloc, CallOption::Include, filter.includes.get())?;
+    let excludes = patterns_of(alloc, CallOption::Exclude, filter.excludes.get())?;
+    if includes.get().is_empty() && excludes.get().is_empty() {
+        return Ok(Choice::All);
+    }
+    Ok(Choice::Filter { includes, excludes })
+}
+
+/// Makes a list of the `words` of `option` as patterns.
+fn patterns_of<'a>(
+    alloc: Global,
+    option: CallOption,
+    words: &[String],
+) -> Result<Patterns, WorkFault<'a>>
+    ensures patterns { IfOk result (λ patterns. patterns ≡ map string_bytes words.now) }
+    ensures taken { IfOk result (λ _. ArePatterns (map string_bytes words.now)) }
+    ensures fault { IfErr result (IsPatternFault option (map string_bytes words.now)) }
+{
+    let mut patterns = Patterns::new(alloc);
+    for word in words {
+        if let Err(fault) = patterns.add(alloc, word.as_bytes()) {
+            return Err(pattern_fault(option, fault));
+        }
+    }
+    Ok(patterns)
+}
+
+/// Why a pattern of `option` can't be added.
+fn pattern_fault<'a>(option: CallOption, fault: PatternFault) -> WorkFault<'a>
+    ensures { result ≡ of_pattern option fault }
+{
+    match fault {
+        PatternFault::TooMany => WorkFault::Call(CallFault::ManyPatterns(option)),
+        PatternFault::TooLong => WorkFault::Call(CallFault::LongPattern(option)),
+        PatternFault::Memory => WorkFault::Memory,
+    }
+}
+
+/// Parses the thresholds.
+fn limits_of<'a>(alloc: Global, words: &'a LimitWords) -> Result<Limits, WorkFault<'a>>
+    ensures limits { IfOk result (λ limits. limits_data limits ≡ limits_with words.now) }
+    ensures good { IfOk result (λ _. (option : AnOption) → IfSome (limit_in option words.now) IsRate) }
+    ensures fault { IfErr result (λ fault. (option : AnOption) × IsRateFault option (limit_in option words.now) fault) }
+{
+    Ok(Limits {
+        lines: rate_of(alloc, CallOption::FailUnderLines, &words.lines)?,
+        functions: rate_of(alloc, CallOption::FailUnderFunctions, &words.functions)?,
+        branches: rate_of(alloc, CallOption::FailUnderBranches, &words.branches)?,
+    })
+}
+
+/// Parses `word`, the threshold of `option`. Returns `None` if there is no word.
+fn rate_of<'a>(
+    alloc: Global,
+    option: CallOption,
+    word: &'a Option<Bytes>,
+) -> Result<Option<Rate>, WorkFault<'a>>
+    ensures rate { IfOk result (λ rate. rate ≡ word.now) }
+    ensures good { IfOk result (λ _. IfSome word.now IsRate) }
+    ensures fault { IfErr result (IsRateFault option word.now) }
+{
+    let Some(word) = word else {
+        return Ok(None);
+    };
+    match Rate::of(word.copy(alloc)?) {
+        Some(rate) => Ok(Some(rate)),
+        None => Err(WorkFault::Call(CallFault::NoRate(option, word.get()))),
+    }
+}
+
+/// Checks that no option asks for an overview while standard output has the tracefile.
+fn check_overview<'a>(options: &CombineOptions, file: Option<&str>) -> Result<(), WorkFault<'a>>
+    ensures room { IfOk result (λ _. HasRoom options.now (option_map (λ name. name.now) file.entry)) }
+    ensures fault { IfErr result (IsWorkFault options.now (option_map (λ name. name.now) file.entry)) }
+{
+    match (file, options.overview, options.form) {
+        (Some(_), _, _) | (None, Overview::Summary, TotalsForm::Words) => Ok(()),
+        (None, Overview::List, _) => Err(WorkFault::Call(CallFault::NoRoom(CallOption::List))),
+        (None, Overview::Summary, TotalsForm::Json) => {
+            Err(WorkFault::Call(CallFault::NoRoom(CallOption::Json)))
+        }
+    }
+}
+
+/// Checks that there is a name, and that no name stands twice.
+fn check_names<'a>(alloc: Global, names: &'a [String]) -> Result<(), WorkFault<'a>>
+    ensures names { IfOk result (λ _. AreNames (map string_bytes names.now)) }
+    ensures fault { IfErr result (IsNameFault (map string_bytes names.now)) }
+{
+    if names.is_empty() {
+        return Err(WorkFault::Call(CallFault::NoName));
+    }
+    match named_twice(alloc, names)? {
+        Some(name) => Err(WorkFault::Call(CallFault::Twice(name))),
+        None => Ok(()),
+    }
+}
+
+/// The first name that an earlier one is equal to.
+fn named_twice<'a>(alloc: Global, names: &'a [String]) -> Result<Option<&'a str>, Memory>
+    ensures { IfOk result (λ name. IsTwiceIfAny (map string_bytes names.now) (option_map (λ n. n.now) name)) }
+{
+    let mut seen = BTreeSet::new(alloc);
+    for name in names {
+        if !seen.insert(name.as_str())? {
+            return Ok(Some(name.as_str()));
+        }
+    }
+    Ok(None)
+}
