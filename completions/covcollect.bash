@@ -54,7 +54,7 @@ _covcollect() {
         elif [[ -z $ended && ${words[i]} == -* ]]; then
             # The value of an option is a word of its own, where it isn't part of the option's.
             case ${words[i]} in
-                -j | --jobs | -o | --output | --include | --exclude | --test) ((i++)) ;;
+                -j | --jobs | -o | --output | --include | --exclude | --test | --expect) ((i++)) ;;
                 --fail-under-lines | --fail-under-functions | --fail-under-branches) ((i++)) ;;
             esac
             [[ $subcommand${words[i]} == check--gcov ]] && annotated=1
@@ -67,14 +67,14 @@ _covcollect() {
 
     if [[ -z $ended ]]; then
         case $subcommand$prev in
-            merge--jobs | merge-j | summary--jobs | summary-j | list--jobs | list-j | check--jobs | check-j)
+            merge--jobs | merge-j | summary--jobs | summary-j | list--jobs | list-j | check--jobs | check-j | combine--jobs | combine-j)
                 # The number of processors, of which 64 can be used.
                 i=$(nproc 2>/dev/null)
                 mapfile -t COMPREPLY < <(compgen -W "$((i > 64 ? 64 : i))" -- "$cur")
                 return
                 ;;
             # The file that the text goes to.
-            merge--output | merge-o | extract--output | extract-o | remove--output | remove-o | gcov--output | gcov-o)
+            merge--output | merge-o | extract--output | extract-o | remove--output | remove-o | gcov--output | gcov-o | combine--output | combine-o)
                 _covcollect_files "$tracefiles"
                 return
                 ;;
@@ -82,9 +82,9 @@ _covcollect() {
                 _filedir
                 return
                 ;;
-            # A pattern, the name of a test, and a threshold.
+            # A pattern, the name of a test, a threshold, and a number of files.
             merge--include | merge--exclude | summary--include | summary--exclude | list--include | list--exclude | gcov--test | \
-                summary--fail-under-lines | summary--fail-under-functions | summary--fail-under-branches)
+                combine--include | combine--exclude | combine--expect | *--fail-under-lines | *--fail-under-functions | *--fail-under-branches)
                 return
                 ;;
         esac
@@ -98,6 +98,10 @@ _covcollect() {
                 extract | remove) options+=' -o --output --lcov2 --strict --large' ;;
                 gcov) options+=' --test -o --output' ;;
                 check) options+=' -j --jobs --gcov --lcov2 --strict --large' ;;
+                combine)
+                    options+=' -j --jobs -o --output --strict --include --exclude --expect --list --json -q --quiet'
+                    options+=' --fail-under-lines --fail-under-functions --fail-under-branches'
+                    ;;
             esac
             mapfile -t COMPREPLY < <(compgen -W "$options" -- "$cur")
             return
@@ -105,8 +109,8 @@ _covcollect() {
     fi
 
     case $subcommand$annotated in
-        '') mapfile -t COMPREPLY < <(compgen -W 'merge summary list extract remove gcov check' -- "$cur") ;;
-        merge | summary | list | check) _covcollect_files "$tracefiles" ;;
+        '') mapfile -t COMPREPLY < <(compgen -W 'merge summary list extract remove gcov check combine' -- "$cur") ;;
+        merge | summary | list | check | combine) _covcollect_files "$tracefiles" ;;
         gcov | check1) _covcollect_files gcov ;;
         extract | remove)
             if ((others == 0)); then
