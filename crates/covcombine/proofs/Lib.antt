@@ -1,0 +1,9 @@
+pub mod FirstLines
+pub mod Counting
+pub mod Opening
+pub mod Stages
+pub mod Files
+pub mod Taken
+pub mod Twice
+pub mod Endings
+pub mod Reports

@@ -1,0 +1,120 @@
+-- A file is opened, and its first bytes are read: what the open tracefile gives, the file may give.
+use Rattle.std.proofs.Common.{◌≡◌, inl, inr, ℕ, suc, ◌<◌, ◌≤◌, List, [], ◌∷◌, ◌++◌, length, Option, Some, None, option_map, Result, Ok, Err, refl, sym, ap, subst, ◌∙◌, arith}
+use Rattle.std.proofs.KnownBytes.{Consumes-trans}
+use Rattle.std.specs.Io.KnownBytes.{Consumes, Keeps}
+use Rattle.covcommand.specs.declared.asked.Strictness.{Strictness}
+use Rattle.covcommand.specs.declared.asked.Strictness.TheVariants.{Lenient, Strict}
+use Rattle.covdata.specs.Row.{SubmissionData}
+use Rattle.covdata.specs.declared.fault.ReadFault.{ReadFault}
+use Rattle.covdata.specs.declared.version.LcovVersion.TheVariants.{Two}
+use Rattle.covlarge.specs.Large.{IsAll, IsReadAs, MayBeReadAs, max_pieces}
+use Rattle.covlarge.specs.State.{MayFailFrom, MayGive}
+use Rattle.covlarge.specs.StateData.{StateData}
+use Rattle.covlarge.specs.Summary.{SummaryData}
+use Rattle.covstream.specs.Blocks.{HasReadAtMost}
+use Rattle.covstream.specs.declared.stream.Source.{Ghosts as SourceOf}
+use Rattle.covworkers.specs.Collect.{OutcomeData}
+use Rattle.covworld.proofs.Folders.{text_at_most}
+use Rattle.covworld.specs.Folder.{FolderData, folder_data}
+use Rattle.covworld.specs.declared.folder.Folder.{Ghosts as FolderOf}
+use Rattle.covcombine.specs.Notes.{AreUnknown, IsNoted, IsOfFile, IsOfTracefile, IsUnlessStrange, note_of}
+use Rattle.covcombine.specs.Steps.{EndsWith, IsOpenedFor, IsToldFor, MayGiveOpened, counts_with, no_counts, note_at, unknown_told}
+use Rattle.covcombine.specs.Strangers.{first_bytes, strange}
+use Rattle.covcombine.specs.declared.note.Counts.{Counts}
+use Rattle.covcombine.specs.declared.note.Note.{Note}
+use Rattle.covcombine.specs.declared.note.Note.TheVariants as notes
+use Rattle.covcombine.specs.declared.opened.Opened.{Opened}
+use Rattle.covcombine.specs.declared.opened.Stage.TheVariants.{Unopened}
+use Rattle.covcombine.specs.declared.stop.Stop.TheVariants as stops
+use Rattle.covcombine.specs.declared.stranger.Stranger.{Stranger}
+use Rattle.covcombine.proofs.Counting.{none_yet}
+
+-- the first bytes and those that follow are the bytes of the file
+pub all_begun : (held left after : Option (List ℕ)) (first text : List ℕ) → Keeps held left → Consumes left after first
+    → IsAll (option_map (λ (more : List ℕ). first ++ more) after) text → IsAll held text
+all_begun None left after first text keeps took all = tt
+all_begun (Some bytes) None after first text keeps took all = absurd keeps
+all_begun (Some bytes) (Some now) None first text keeps took all = absurd took
+all_begun (Some bytes) (Some now) (Some rest) first text keeps took all = all ∙ sym took ∙ keeps
+
+-- ---- notes
+
+unknown : (strictness : Strictness) (text : List ℕ) (read : List SubmissionData) (told : Option SummaryData) → IsToldFor strictness (Ok told) → IsReadAs Two text read (Ok told)
+    → AreUnknown strictness text (unknown_told told)
+unknown Lenient text read None told is = refl
+unknown Lenient text read (Some held) told is = absurd told
+unknown Strict text read None told is = absurd told
+unknown Strict text read (Some held) told is = (is.1.lines, is.1.those, is.1.skipped)
+
+-- the note of all submissions of a text is the text's
+noted : (strictness : Strictness) (first text : List ℕ) (read : List SubmissionData) (end : Result (Option SummaryData) ReadFault) → IsToldFor strictness end → IsReadAs Two text read end
+    → IsNoted strictness first text read end (note_at first (counts_with no_counts read) end)
+noted strictness first text read (Ok told) is_told is =
+    (unknown_told told, unknown strictness text read told is_told is, ap (λ (c : Counts). note_of first c (unknown_told told)) (none_yet read))
+noted strictness first text read (Err fault) is_told is = refl
+
+-- ---- an open file
+
+module _ {F File : Type 0} (of : FolderOf F File) (file : SourceOf File) (folder : F) (strictness : Strictness) (name : List ℕ) (source after : File) (first : List ℕ)
+    (may : of.may_open folder name source) (keeps : Keeps (of.holds folder name) (file.left source)) (none : file.failed_reads source ≡ 0) where
+  -- a read of the first bytes failed
+  pub first_failed : (bytes : List ℕ) → Consumes (file.left source) (file.left after) bytes → file.failed_reads after ≡ suc (file.failed_reads source)
+      → (folder_data of file folder).MayFail name
+  first_failed bytes took failed =
+      inr (record { opened = source; may_open = may; keeps = keeps; after = after; bytes = bytes; given = took; failed = omega (arith, failed) })
+
+  module _ (took : HasReadAtMost first_bytes (file.left source) (file.left after) first) (few : length first ≤ first_bytes) where
+    -- a later read may fail
+    later_failed : file.failed_reads after ≡ 0 → MayFailFrom file.left file.failed_reads after → (folder_data of file folder).MayFail name
+    later_failed still (later, bytes, given, failed) = inr (record {
+      opened = source;
+      may_open = may;
+      keeps = keeps;
+      after = later;
+      bytes = first ++ bytes;
+      given = Consumes-trans (file.left source) (file.left after) (file.left later) first bytes took.0 given;
+      failed = omega (arith, failed, none, still);
+    })
+
+    -- the file is of another kind
+    pub strange_file : (kind : Stranger) → strange first ≡ Some kind → EndsWith (IsOfFile (folder_data of file folder) strictness name) (stops.Ended (notes.Strange kind))
+    strange_file kind is = inr (
+      first,
+      text_at_most first_bytes (of.holds folder name) (file.left source) (file.left after) first keeps took few,
+      subst (λ (k : Option Stranger). IsUnlessStrange k strictness (of.holds folder name) first (record { read = []; fault = Some (notes.Strange kind) })) (sym is) refl,
+    )
+
+    -- the file may be a tracefile, and is opened
+    pub opened_now : (opened : Opened File) → strange first ≡ None → opened.first ≡ first → opened.counts ≡ no_counts
+        → ((read : List SubmissionData) (end : Result (Option SummaryData) ReadFault) → MayGive file.left opened.rest read end
+        → MayBeReadAs Two (option_map (λ (more : List ℕ). first ++ more) (file.left after)) read end)
+        → ((read : List SubmissionData) (end : Result (Option SummaryData) ReadFault) → MayGive file.left opened.rest read end → IsToldFor strictness end)
+        → opened.rest.source ≡ after → opened.rest.left ≡ max_pieces → file.failed_reads after ≡ 0
+        → IsOpenedFor file.left file.failed_reads (folder_data of file folder) strictness name Unopened opened
+    opened_now opened not_strange same_first same_counts whole told same most still = record { gives = gives; most = most }
+      where
+        of_tracefile : (outcome : OutcomeData Note) (read : List SubmissionData) (end : Result (Option SummaryData) ReadFault) → MayGive file.left opened.rest read end
+            → outcome ≡ record { read = read; fault = Some (note_at first (counts_with no_counts read) end) } → IsOfTracefile strictness (of.holds folder name) first outcome
+        of_tracefile outcome read end may_give is =
+            let (text, all, read_as) = whole read end may_give in (
+              text,
+              read,
+              end,
+              note_at first (counts_with no_counts read) end,
+              all_begun (of.holds folder name) (file.left source) (file.left after) first text keeps took.0 all,
+              read_as,
+              noted strictness first text read end (told read end may_give) read_as,
+              is,
+            )
+
+        gives : (outcome : OutcomeData Note) → MayGiveOpened file.left file.failed_reads opened.first opened.counts opened.rest outcome
+            → IsOfFile (folder_data of file folder) strictness name outcome
+        gives outcome (inl (fault, fails)) = inl (fault, later_failed still (subst (λ (s : File). MayFailFrom file.left file.failed_reads s) same fails))
+        gives outcome (inr (read, end, may_give, is)) =
+            let by_first = is ∙ ap (λ (f : List ℕ). record { read = read; fault = Some (note_at f (counts_with opened.counts read) end) }) same_first in
+            let by_both = by_first ∙ ap (λ (c : Counts). record { read = read; fault = Some (note_at first (counts_with c read) end) }) same_counts in
+            inr (
+              first,
+              text_at_most first_bytes (of.holds folder name) (file.left source) (file.left after) first keeps took few,
+              subst (λ (k : Option Stranger). IsUnlessStrange k strictness (of.holds folder name) first outcome) (sym not_strange) (of_tracefile outcome read end may_give by_both),
+            )

@@ -1,0 +1,112 @@
+-- One piece of an open tracefile, and how collecting takes it.
+use Rattle.std.proofs.Common.{◌≡◌, inl, inr, ℕ, ◌<◌, List, [], ◌∷◌, Option, Some, None, Result, Ok, Err, refl, sym, ap, subst, ◌∙◌}
+use Rattle.covcommand.specs.declared.asked.Strictness.{Strictness}
+use Rattle.covdata.specs.Row.{SubmissionData}
+use Rattle.covdata.specs.declared.fault.ReadFault.{ReadFault}
+use Rattle.covlarge.specs.State.{IsNextPiece, MayFailFrom, MayGive}
+use Rattle.covlarge.specs.StateData.{StateData}
+use Rattle.covlarge.specs.Summary.{SummaryData}
+use Rattle.covlarge.specs.declared.fault.PieceFault.{PieceFault}
+use Rattle.covlarge.specs.declared.fault.PieceFault.TheVariants as pieces
+use Rattle.covlarge.specs.declared.large_tracefile.NextPiece.{NextPiece}
+use Rattle.covlarge.specs.declared.large_tracefile.NextPiece.TheVariants as parts
+use Rattle.covworkers.specs.Collect.{OutcomeData}
+use Rattle.covworkers.specs.Late.{IsNextPart}
+use Rattle.covworkers.specs.Work.{in_front}
+use Rattle.covworkers.specs.declared.late_fault.LateFault.{LateFault}
+use Rattle.covworkers.specs.declared.part.Part.{Part}
+use Rattle.covworkers.specs.declared.part.Part.TheVariants as given_parts
+use Rattle.covworld.specs.Folder.{FolderData}
+use Rattle.covcombine.specs.Notes.{note_of}
+use Rattle.covcombine.specs.Steps.{EndsWith, IsLater, IsNextStage, IsOpenedFor, MayGiveFrom, MayGiveLater, MayGiveOpened, counts_with, most_parts, note_at, of_piece, of_stop, unknown_told}
+use Rattle.covcombine.specs.declared.note.Counts.{Counts}
+use Rattle.covcombine.specs.declared.note.Note.{Note}
+use Rattle.covcombine.specs.declared.opened.Opened.{Opened}
+use Rattle.covcombine.specs.declared.opened.Stage.{Stage}
+use Rattle.covcombine.specs.declared.opened.Stage.TheVariants as stages
+use Rattle.covcombine.specs.declared.stop.Stop.{Stop}
+use Rattle.covcombine.specs.declared.stop.Stop.TheVariants as stops
+use Rattle.covcombine.proofs.Counting.{counts_on}
+
+module _ {S : Type 0} (left : S → Option (List ℕ)) (failed_reads : S → ℕ) (opened : Opened S) where
+  -- a piece, and the rest of the tracefile
+  pub more_stage : (submission : SubmissionData) (next : Opened S) → next.first ≡ opened.first → next.counts ≡ counts_with opened.counts (submission ∷ [])
+      → IsNextPiece left failed_reads opened.rest (Ok (parts.More submission next.rest)) → IsNextStage left failed_reads opened submission (stages.Reading next)
+  more_stage submission next same_first same_counts (fewer, fails, gives) = record { later = tt; fewer = fewer; gives = go }
+    where
+      go : (outcome : OutcomeData Note) → MayGiveOpened left failed_reads next.first next.counts next.rest outcome
+          → MayGiveOpened left failed_reads opened.first opened.counts opened.rest (in_front submission outcome)
+      go outcome (inl (fault, may_fail)) = inl (fault, fails may_fail)
+      go outcome (inr (read, end, may_give, is)) =
+          let with_first = ap (λ (f : List ℕ). note_at f (counts_with next.counts read) end) same_first in
+          let with_counts = ap (λ (c : Counts). note_at opened.first (counts_with c read) end) same_counts in
+          let with_all = ap (λ (c : Counts). note_at opened.first c end) (counts_on opened.counts submission read) in
+          inr (
+            submission ∷ read,
+            end,
+            gives read end may_give,
+            ap (λ (o : OutcomeData Note). in_front submission o) is
+                ∙ ap (λ (n : Note). record { read = submission ∷ read; fault = Some n }) (with_first ∙ with_counts ∙ with_all),
+          )
+
+  -- the last piece, and the note
+  pub last_stage : (submission : SubmissionData) (told : Option SummaryData) (note : Note) → note ≡ note_of opened.first (counts_with opened.counts (submission ∷ [])) (unknown_told told)
+      → IsNextPiece left failed_reads opened.rest (Ok (parts.Last submission told)) → IsNextStage left failed_reads opened submission (stages.Ended note)
+  last_stage submission told note same (some, may_give) = record {
+    later = tt;
+    fewer = some;
+    gives = λ outcome is. inr (
+      submission ∷ [],
+      Ok told,
+      may_give,
+      ap (λ (o : OutcomeData Note). in_front submission o) is ∙ ap (λ (n : Note). record { read = submission ∷ []; fault = Some n }) same,
+    );
+  }
+
+  -- no piece
+  pub no_stage : (fault : PieceFault) → IsNextPiece left failed_reads opened.rest (Err fault) → EndsWith (MayGiveOpened left failed_reads opened.first opened.counts opened.rest) (of_piece fault)
+  no_stage (pieces.Refused fault) may_give = inr ([], Err fault, may_give, refl)
+  no_stage pieces.Unreadable may_fail = inl (refl, may_fail)
+  no_stage pieces.Memory none = tt
+
+-- ---- as collecting takes it
+
+module _ {S : Type 0} (left : S → Option (List ℕ)) (failed_reads : S → ℕ) (folder : FolderData) (strictness : Strictness) (name : List ℕ) where
+  later_gives : (stage : Stage S) (outcome : OutcomeData Note) → IsLater stage → MayGiveFrom left failed_reads folder strictness name stage outcome → MayGiveLater left failed_reads stage outcome
+  later_gives stages.Unopened outcome later may_give = absurd later
+  later_gives (stages.Reading opened) outcome later may_give = may_give
+  later_gives (stages.Ended note) outcome later may_give = may_give
+
+  -- a file that is open already
+  pub opened_before : (opened : Opened S) → IsOpenedFor left failed_reads folder strictness name (stages.Reading opened) opened
+  opened_before opened = record { gives = λ outcome may_give. may_give; most = refl }
+
+  -- a file that is read to its end has only its note
+  pub ended_before : (note : Note) → EndsWith (MayGiveFrom left failed_reads folder strictness name (stages.Ended note)) (stops.Ended note)
+  ended_before note = refl
+
+  -- what an open tracefile ends with, its file ends with
+  pub ends_opened : (stage : Stage S) (opened : Opened S) (stop : Stop) → IsOpenedFor left failed_reads folder strictness name stage opened
+      → EndsWith (MayGiveOpened left failed_reads opened.first opened.counts opened.rest) stop → EndsWith (MayGiveFrom left failed_reads folder strictness name stage) stop
+  ends_opened stage opened (stops.Ended note) is ends = is.gives (record { read = []; fault = Some note }) ends
+  ends_opened stage opened stops.Memory is ends = tt
+
+  -- the next piece as the input's next part
+  pub next_part : (stage next : Stage S) (opened : Opened S) (submission : SubmissionData) → IsOpenedFor left failed_reads folder strictness name stage opened
+      → IsNextStage left failed_reads opened submission next
+      → (most_parts next < most_parts stage) × (⊥ → ⊥)
+      × ((outcome : OutcomeData Note) → MayGiveFrom left failed_reads folder strictness name next outcome → MayGiveFrom left failed_reads folder strictness name stage (in_front submission outcome))
+  next_part stage next opened submission is piece = (
+    subst (λ (n : ℕ). most_parts next < n) is.most piece.fewer,
+    λ none. none,
+    λ outcome may_give. is.gives (in_front submission outcome) (piece.gives outcome (later_gives next outcome piece.later may_give)),
+  )
+
+-- why there is no next part
+pub no_part : {X A : Type 0} (MayGive : X → OutcomeData Note → Type 0) (most : X → ℕ) (input : X) (stop : Stop) (fault : LateFault Note) → fault ≡ of_stop stop → EndsWith (MayGive input) stop
+    → IsNextPart {A = A} MayGive (λ one. ⊥) most input (Err fault)
+no_part {X} {A} MayGive most input stop fault is ends = subst (λ (f : LateFault Note). IsNextPart {A = A} MayGive (λ one. ⊥) most input (Err f)) (sym is) (go stop ends)
+  where
+    go : (stop : Stop) → EndsWith (MayGive input) stop → IsNextPart {A = A} MayGive (λ one. ⊥) most input (Err (of_stop stop))
+    go (stops.Ended note) ends = ends
+    go stops.Memory ends = tt

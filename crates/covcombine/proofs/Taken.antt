@@ -1,0 +1,121 @@
+-- Options are checked one after another: all of them do, or one of them doesn't.
+use Rattle.std.proofs.Common.{◌≡◌, ℕ, zero, suc, ◌<◌, ◌≤◌, List, [], ◌∷◌, ◌++◌, length, map, take, get_or, Option, Some, None, Result, Err, refl, sym, ap, subst, ◌∙◌, arith}
+use Rattle.std.proofs.lemmas.List.{length-map, length-take-le}
+use Rattle.std.specs.List.{AllByRecursion}
+use Rattle.std.specs.Prelude.{Contains, IfSome}
+use Rattle.covcommand.specs.declared.asked.CombineOptions.{CombineOptions}
+use Rattle.covlimit.specs.Rates.{IsRate}
+use Rattle.covreport.specs.Choice.{AllFiles, Filtered, max_pattern_bytes, max_patterns}
+use Rattle.covreport.specs.declared.patterns.PatternFault.{PatternFault}
+use Rattle.covreport.specs.declared.patterns.PatternFault.TheVariants as patterns
+use Rattle.covtable.proofs.Members.{All-in, In-from}
+use Rattle.covcombine.specs.Options.{IsCallFault, choice_by, limit_in, patterns_in}
+use Rattle.covcombine.specs.Steps.{AreNames, ArePatterns, HasRoom, IsNameFault, IsPatternFault, IsRateFault, IsWorkFault, of_pattern}
+use Rattle.covcombine.specs.declared.call_fault.CallFault.{CallFault}
+use Rattle.covcombine.specs.declared.call_fault.CallFault.TheVariants.{ManyPatterns, LongPattern, NoRate, NoRoom, NoName, Twice}
+use Rattle.covcombine.specs.declared.call_fault.CallOption.{CallOption}
+use Rattle.covcombine.specs.declared.call_fault.WorkFault.{WorkFault}
+use Rattle.covcombine.specs.declared.call_fault.WorkFault.TheVariants as works
+
+apart : (n most : ℕ) → n ≤ most → most < n → ⊥
+apart n most few many = omega (arith, few, many)
+
+-- ---- all options do
+
+none_long : (most : ℕ) (patterns : List (List ℕ)) (pattern : List ℕ) → AllByRecursion (λ p. length p ≤ most) patterns → Contains patterns pattern → most < length pattern → ⊥
+none_long most patterns pattern all within long =
+    apart (length pattern) most (All-in (λ (p : List ℕ). length p ≤ most) patterns pattern all (In-from patterns pattern within)) long
+
+-- patterns, thresholds, the overview and names do, so no option is at fault
+pub faultless : (options : CombineOptions) (file : Option (List ℕ)) → ((option : CallOption) → ArePatterns (patterns_in option options.filter))
+    → ((option : CallOption) → IfSome (limit_in option options.limits) IsRate) → HasRoom options file → AreNames options.names
+    → (fault : CallFault) → IsCallFault options file fault → ⊥
+faultless options file taken rates room names (ManyPatterns option) many = apart (length (patterns_in option options.filter)) max_patterns (taken option).0 many
+faultless options file taken rates room names (LongPattern option) (pattern, within, long) =
+    none_long max_pattern_bytes (patterns_in option options.filter) pattern (taken option).1 within long
+faultless options file taken rates room names (NoRate option word) (is, none) = none (subst (λ (w : Option (List ℕ)). IfSome w IsRate) is (rates option))
+faultless options file taken rates room names (NoRoom option) (none, asks) = room option none asks
+faultless options file taken rates room names NoName none = names.0 none
+faultless options file taken rates room names (Twice name) twice = names.1 name.now twice
+
+-- ---- an option doesn't do
+
+pub pattern_refused : (options : CombineOptions) (file : Option (List ℕ)) (option : CallOption) (fault : WorkFault)
+    → IsPatternFault option (patterns_in option options.filter) fault → IsWorkFault options file fault
+pattern_refused options file option (works.Call (ManyPatterns same)) (is, many) = subst (λ (o : CallOption). max_patterns < length (patterns_in o options.filter)) (sym is) many
+pattern_refused options file option (works.Call (LongPattern same)) (is, (pattern, within, long)) =
+    (pattern, subst (λ (o : CallOption). Contains (patterns_in o options.filter) pattern) (sym is) within, long)
+pattern_refused options file option (works.Call (NoRate other word)) none = absurd none
+pattern_refused options file option (works.Call (NoRoom other)) none = absurd none
+pattern_refused options file option (works.Call NoName) none = absurd none
+pattern_refused options file option (works.Call (Twice name)) none = absurd none
+pattern_refused options file option works.Memory none = tt
+
+pub rate_refused : (options : CombineOptions) (file : Option (List ℕ)) (option : CallOption) (fault : WorkFault)
+    → IsRateFault option (limit_in option options.limits) fault → IsWorkFault options file fault
+rate_refused options file option (works.Call (ManyPatterns other)) none = absurd none
+rate_refused options file option (works.Call (LongPattern other)) none = absurd none
+rate_refused options file option (works.Call (NoRate same word)) (is, told, none) =
+    (subst (λ (o : CallOption). limit_in o options.limits ≡ Some word.now) (sym is) told, none)
+rate_refused options file option (works.Call (NoRoom other)) none = absurd none
+rate_refused options file option (works.Call NoName) none = absurd none
+rate_refused options file option (works.Call (Twice name)) none = absurd none
+rate_refused options file option works.Memory none = tt
+
+pub name_refused : (options : CombineOptions) (file : Option (List ℕ)) (fault : WorkFault) → IsNameFault options.names fault → IsWorkFault options file fault
+name_refused options file (works.Call (ManyPatterns other)) none = absurd none
+name_refused options file (works.Call (LongPattern other)) none = absurd none
+name_refused options file (works.Call (NoRate other word)) none = absurd none
+name_refused options file (works.Call (NoRoom other)) none = absurd none
+name_refused options file (works.Call NoName) is = is
+name_refused options file (works.Call (Twice name)) twice = twice
+name_refused options file works.Memory none = tt
+
+-- ---- patterns
+
+pub chosen_all : (includes excludes : List (List ℕ)) → includes ≡ [] → excludes ≡ [] → choice_by includes excludes ≡ AllFiles
+chosen_all [] [] no_includes no_excludes = refl
+chosen_all [] (e ∷ es) no_includes no_excludes = absurd (omega (arith, ap length no_excludes))
+chosen_all (i ∷ is) excludes no_includes no_excludes = absurd (omega (arith, ap length no_includes))
+
+pub chosen_some : (includes excludes : List (List ℕ)) → (includes ≡ [] → excludes ≡ [] → ⊥) → choice_by includes excludes ≡ Filtered includes excludes
+chosen_some [] [] some = absurd (some refl refl)
+chosen_some [] (e ∷ es) some = refl
+chosen_some (i ∷ is) excludes some = refl
+
+-- one pattern more
+pub one_more : (patterns : List (List ℕ)) (pattern : List ℕ) → ArePatterns patterns → length (patterns ++ pattern ∷ []) ≤ max_patterns → length pattern ≤ max_pattern_bytes
+    → ArePatterns (patterns ++ pattern ∷ [])
+one_more patterns pattern taken few short = (few, go patterns taken.1)
+  where
+    go : (ps : List (List ℕ)) → AllByRecursion (λ (p : List ℕ). length p ≤ max_pattern_bytes) ps → AllByRecursion (λ (p : List ℕ). length p ≤ max_pattern_bytes) (ps ++ pattern ∷ [])
+    go [] all = (short, tt)
+    go (p ∷ ps) all = (all.0, go ps all.1)
+
+at_map : {X : Type 0} (name : X → List ℕ) (words : List X) (i : ℕ) (default : X) (other : List ℕ) → i < length words → get_or (map name words) i other ≡ name (get_or words i default)
+at_map name [] i default other within = absurd (omega (arith, within))
+at_map name (word ∷ words) zero default other within = refl
+at_map name (word ∷ words) (suc i) default other within = at_map name words i default other (omega (arith, within))
+
+too_many : (held i most count mapped : ℕ) → held ≡ i → held ≡ most → i < count → mapped ≡ count → most < mapped
+too_many held i most count mapped here full within same = omega (arith, here, full, within, same)
+
+inside : (i count mapped : ℕ) → i < count → mapped ≡ count → i < mapped
+inside i count mapped within same = omega (arith, within, same)
+
+-- if the list doesn't take this word, the option's patterns are at fault
+pub refused_at : {X : Type 0} (name : X → List ℕ) (option : CallOption) (words : List X) (i : ℕ) (default : X) → i < length words
+    → (held : List (List ℕ)) → held ≡ map name (take i words)
+    → (word : List ℕ) → word ≡ name (get_or words i default)
+    → (fault : PatternFault) (answer : Result (Unit {0}) PatternFault) → answer ≡ Err fault
+    → (answer ≡ Err patterns.TooMany → length held ≡ max_patterns)
+    → (answer ≡ Err patterns.TooLong → (length held < max_patterns) × (max_pattern_bytes < length word))
+    → IsPatternFault option (map name words) (of_pattern option fault)
+refused_at name option words i default within held are word is patterns.TooMany answer told many long = (
+  refl,
+  too_many (length held) i max_patterns (length words) (length (map name words)) (ap length are ∙ length-map (take i words) name ∙ length-take-le i words (omega (arith, within)))
+      (many told) within (length-map words name),
+)
+refused_at name option words i default within held are word is patterns.TooLong answer told many long =
+    (refl, word, (i, inside i (length words) (length (map name words)) within (length-map words name), at_map name words i default word within ∙ sym is), (long told).1)
+refused_at name option words i default within held are word is patterns.Memory answer told many long = tt
