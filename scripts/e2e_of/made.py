@@ -152,6 +152,20 @@ def told_names(player, folder):
         player.call("told names", folder, ["covcollect", *words], (1, b"", unread))
 
 
+def combined_names(player, folder):
+    """So does `combine`, and it quotes a name that stands in a command."""
+    packed = written(f"{folder}/it's;\n.info", [b"\x1f\x8b\x08"])
+    shown = f"{folder}/it's;\\x0a.info"
+    command = f"zcat '{folder}/it'\\''s;\\x0a.info'"
+    missing = f"{folder}/none\x1b\\.info"
+    for names, status, told in (
+        ([packed], 5, f"{shown}: packed by gzip (unpack it first, or name it as <({command}))\n"),
+        ([packed, packed], 2, f"{shown}: named twice\n"),
+        ([missing], 1, f"{folder}/none\\x1b\\\\.info: can't be read\n"),
+    ):
+        player.call("combined names", folder, ["covcollect", "combine", *names], (status, b"", told.encode()))
+
+
 def large_file(player, folder):
     """A file of 9 MiB is read in pieces: 23 sections of 40,002 lines."""
     path = written(f"{folder}/large.info", chain.from_iterable(lines_of(b"/%02d.c" % it, 7, 40_000) for it in range(23)))
@@ -234,6 +248,6 @@ def limits_of_patterns(player, folder):
 
 
 JOBS = (
-    large_totals, a_rounded_rate, rounded_rates, strange_paths, checked_names, strict_names, told_names, large_file, several_pieces,
-    written_names, a_thousand_files, two_thousand_files, limits_of_patterns,
+    large_totals, a_rounded_rate, rounded_rates, strange_paths, checked_names, strict_names, told_names, combined_names, large_file,
+    several_pieces, written_names, a_thousand_files, two_thousand_files, limits_of_patterns,
 )

@@ -11,7 +11,8 @@ LOST = (1, b"", b"write fault\n")
 
 def a_pipe(player, folder):
     """A pipe is a file like others."""
-    player.shell("pipe", folder, f'cat {folder}/a.info | "$0" merge {folder}/a.info /dev/stdin', (0, MERGED, b""))
+    for command in ("merge", "combine"):
+        player.shell("pipe", folder, f'cat {folder}/a.info | "$0" {command} {folder}/a.info /dev/stdin', (0, MERGED, b""))
     merged = b"TN:\nSF:/a.c\nDA:1,3\nLF:1\nLH:1\nend_of_record\n"
     player.shell("pipe", folder, r"printf 'SF:/a.c\nDA:1,3\nend_of_record\n' | "'"$0" merge --jobs=4 /proc/self/fd/0', (0, merged, b""))
 
@@ -23,6 +24,14 @@ def lost_outputs(player, folder):
             player.shell("output", folder, f'"$0" {command} {folder}/a.info {end}', LOST)
 
 
+def lost_overviews(player, folder):
+    """A tracefile that `combine` wrote is there, though standard output is lost, and the last line says so."""
+    for end in (">/dev/full", ">&-"):
+        player.shell("combine", folder, f'"$0" combine a.info {end}', (1, b"", b"standard output can't be written\n"))
+        player.shell("combine", folder, f'"$0" combine -o out.info a.info {end}', (1, b"", b"standard output can't be written, but out.info is\n"))
+        player.look_into(f"{folder}/out.info", TEXT)
+
+
 def many_files(player, folder):
     """A thousand files in one call."""
     merged, names = [], []
@@ -31,7 +40,8 @@ def many_files(player, folder):
         merged.append("TN:\n" + section)
         names.append(f"{number}.info")
         written(f"{folder}/{number}.info", [section.encode()])
-    player.shell("thousand", folder, '"$0" merge --jobs 4 "$@"', (0, "".join(merged).encode(), b""), words=reversed(names))
+    for call in ("merge --jobs 4", "combine --expect 1000"):
+        player.shell("thousand", folder, f'"$0" {call} "$@"', (0, "".join(merged).encode(), b""), words=reversed(names))
 
 
 def told_before_the_next(player, folder):
@@ -85,4 +95,5 @@ def beside_a_tracefile(part):
     return job
 
 
-JOBS = tuple(map(beside_a_tracefile, (a_pipe, lost_outputs, many_files, told_before_the_next, lost_sessions, strange_words, whole_or_nothing)))
+PARTS = (a_pipe, lost_outputs, lost_overviews, many_files, told_before_the_next, lost_sessions, strange_words, whole_or_nothing)
+JOBS = tuple(map(beside_a_tracefile, PARTS))
