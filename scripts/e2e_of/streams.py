@@ -26,9 +26,10 @@ def lost_outputs(player, folder):
 
 def lost_overviews(player, folder):
     """A tracefile that `combine` wrote is there, though standard output is lost, and the last line says so."""
+    lost = "standard output can't be written"
     for end in (">/dev/full", ">&-"):
-        player.shell("combine", folder, f'"$0" combine a.info {end}', (1, b"", b"standard output can't be written\n"))
-        player.shell("combine", folder, f'"$0" combine -o out.info a.info {end}', (1, b"", b"standard output can't be written, but out.info is\n"))
+        for words, told in (("a.info", lost), ("-o out.info a.info", f"{lost}, but out.info is")):
+            player.shell("combine", folder, f'"$0" combine {words} {end}', (1, b"", f"{told}\n".encode()))
         player.look_into(f"{folder}/out.info", TEXT)
 
 
