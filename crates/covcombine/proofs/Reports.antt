@@ -1,5 +1,5 @@
 -- How an ending is reported, from what its prints and its file did.
-use Rattle.std.proofs.Common.{◌≡◌, ◌⊎◌, inl, inr, ℕ, suc, List, ◌++◌, Option, Some, None, refl, sym, subst, ◌∙◌}
+use Rattle.std.proofs.Common.{◌≡◌, ◌⊎◌, inl, inr, ℕ, suc, List, [], ◌∷◌, ◌++◌, Option, Some, None, refl, sym, ap, subst, ◌∙◌}
 use Rattle.std.specs.Io.KnownBytes.{Appends}
 use Rattle.covcommand.specs.declared.asked.CombineOptions.{CombineOptions}
 use Rattle.covcommand.specs.declared.asked.Strictness.{Strictness}
@@ -12,7 +12,7 @@ use Rattle.covworld.specs.OutputFiles.{IsWritten}
 use Rattle.covworld.specs.Streams.{SinksData, Complains, IsSilent, PutsOut, Withholds}
 use Rattle.covworld.specs.World.{WorldData}
 use Rattle.covcombine.specs.Combine.{EndingData, Fails, Gives, GivenData}
-use Rattle.covcombine.specs.Combined.{Ends, IsCombineCall, IsPrinted, IsReported, IsUnfiled, MayEnd, given_status, out_of_memory}
+use Rattle.covcombine.specs.Combined.{Ends, IsCombineCall, IsPrinted, IsReported, IsUnfiled, MayEnd, Tells, given_status, out_of_memory}
 use Rattle.covcombine.specs.Messages.{cut_line}
 use Rattle.covcombine.specs.Options.{CombineData}
 
@@ -25,10 +25,21 @@ puts_on text old middle new (out, sent, good) (same, held, failed) = (subst (λ 
 complains_on : (words : List ℕ) (old middle new : SinksData) → IsSilent old middle → Complains words middle new → Complains words old new
 complains_on words old middle new (faults, failed) complains = λ same. subst (λ (f : Option (List ℕ)). Appends f new.faults words) faults (complains (same ∙ sym failed))
 
+tells_on : (lines : List ℕ) (old middle new : SinksData) → IsSilent old middle → Tells lines middle new → Tells lines old new
+tells_on [] old middle new (faults, failed) (later, none) = (later ∙ faults, none ∙ failed)
+tells_on (b ∷ bs) old middle new silent complains = complains_on (b ∷ bs) old middle new silent complains
+
+-- two texts are written, or none if both are empty
+pub tells_both : (front words : List ℕ) (old new : SinksData) → (front ≡ [] → words ≡ [] → new ≡ old) → Complains (front ++ words) old new → Tells (front ++ words) old new
+tells_both [] [] old new none complains =
+    (ap (λ (s : SinksData). s.faults) (none refl refl), ap (λ (s : SinksData). s.failed_faults) (none refl refl))
+tells_both [] (b ∷ bs) old new none complains = complains
+tells_both (b ∷ bs) words old new none complains = complains
+
 pub printed : (cut text warnings missed : List ℕ) (status : ℕ) (old middle new : SinksData) → status ≡ given_status missed → PutsOut text old middle → IsSilent old middle → Withholds middle new
-    → Complains (warnings ++ missed) middle new → IsPrinted cut text warnings missed status old new
-printed cut text warnings missed status old middle new is out silent withheld complains =
-    inl (is, puts_on text old middle new out withheld, complains_on (warnings ++ missed) old middle new silent complains)
+    → Tells (warnings ++ missed) middle new → IsPrinted cut text warnings missed status old new
+printed cut text warnings missed status old middle new is out silent withheld tells =
+    inl (is, puts_on text old middle new out withheld, tells_on (warnings ++ missed) old middle new silent tells)
 
 pub cut_short : (cut text warnings missed : List ℕ) (status : ℕ) (old middle new : SinksData) → status ≡ 1 → HasBegun old.output middle.output text → middle.failed_output ≡ suc old.failed_output
     → IsSilent old middle → Withholds middle new → Complains (warnings ++ cut) middle new → IsPrinted cut text warnings missed status old new

@@ -15,7 +15,7 @@ use Rattle.covworkers.specs.declared.collect_fault.CollectFault.TheVariants as c
 use Rattle.covworkers.specs.declared.refused.RefusedInput.{RefusedInput}
 use Rattle.covworld.specs.Folder.{FolderData}
 use Rattle.covworld.specs.OutputFiles.{IsWritten}
-use Rattle.covworld.specs.Streams.{SinksData, Complains, PutsOut, Withholds}
+use Rattle.covworld.specs.Streams.{SinksData, Complains, IsSilent, PutsOut, Withholds}
 use Rattle.covworld.specs.World.{WorldData}
 use Rattle.covcombine.specs.Combine.{EndingData, Fails, Gives, end_of}
 use Rattle.covcombine.specs.Messages.{call_fault_line, cut_line, expected_line, unwritten_line}
@@ -54,11 +54,16 @@ abbrev pub given_status : (missed : List ℕ) → ℕ
 given_status [] = 0
 given_status (b ∷ bs) = 6
 
+-- these lines went to the stream for faults; nothing was written there if there are none
+abbrev pub Tells : (lines : List ℕ) → SinksData → SinksData → Type 0
+Tells [] old new = IsSilent old new
+Tells (b ∷ bs) old new = Complains (b ∷ bs) old new
+
 -- the text goes to the output as a whole, and the warnings and missed rates to the stream for faults; or the output has a beginning of the
 -- text alone, and the last line is `cut`
 abbrev pub IsPrinted : (cut text warnings missed : List ℕ) → (status : ℕ) → SinksData → SinksData → Type 0
 IsPrinted cut text warnings missed status old new =
-    ((status ≡ given_status missed) × PutsOut text old new × Complains (warnings ++ missed) old new)
+    ((status ≡ given_status missed) × PutsOut text old new × Tells (warnings ++ missed) old new)
     ⊎ ((status ≡ 1) × HasBegun old.output new.output text × (new.failed_output ≡ suc old.failed_output) × Complains (warnings ++ cut) old new)
 
 -- the file couldn't be written. No file is finished, nothing is printed, and the last line says so

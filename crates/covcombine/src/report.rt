@@ -1,6 +1,6 @@
 //! Reports how a call ended.
 
-ghost use Rattle.std.specs.Prelude.{◌≡◌, ◌<◌, ◌⊎◌, ◌^◌, None, Some, option_map};
+ghost use Rattle.std.specs.Prelude.{◌≡◌, ◌<◌, ◌⊎◌, ◌^◌, ◌++◌, [], None, Some, option_map};
 ghost use Rattle.covsession.specs.Program.{words_of_fault};
 ghost use Rattle.covsession.specs.Session.{said as said_line};
 ghost use Rattle.covsession.specs.declared.session.fault.SessionFault.TheVariants as session_faults;
@@ -133,13 +133,25 @@ fn print<O: Sink, E: Sink>(
 {
     match sinks.print(text) {
         Ok(()) => {
-            sinks.say(warnings, missed);
+            say_if_any(warnings, missed, sinks);
             given_status(missed)
         }
         Err(_) => {
             sinks.say(warnings, cut);
             1
         }
+    }
+}
+
+/// Writes `front` and then `words` to the error stream. Writes nothing if both are empty.
+fn say_if_any<O: Sink, E: Sink>(front: &[u8], words: &[u8], sinks: &mut Sinks<O, E>)
+    requires { sinks.old.failed_faults < 2 ^ 62 }
+    ensures none { front.now ≡ [] → words.now ≡ [] → sinks.new ≡ sinks.old }
+    ensures said { Complains (front.now ++ words.now) sinks.old sinks.new }
+    ensures withheld { Withholds sinks.old sinks.new }
+{
+    if !front.is_empty() || !words.is_empty() {
+        sinks.say(front, words);
     }
 }
 
