@@ -28,7 +28,10 @@ def lost_overviews(player, folder):
     """A tracefile that `combine` wrote is there, though standard output is lost, and the last line says so."""
     lost = "standard output can't be written"
     for end in (">/dev/full", ">&-"):
-        for words, told in (("a.info", lost), ("-o out.info a.info", f"{lost}, but out.info is")):
+        for words, told in (
+            ("a.info", lost), ("--exclude x a.info", f"warning: --exclude x: matches no source file\n{lost}"),
+            ("-o out.info a.info", f"{lost}, but out.info is"),
+        ):
             player.shell("combine", folder, f'"$0" combine {words} {end}', (1, b"", f"{told}\n".encode()))
         player.look_into(f"{folder}/out.info", TEXT)
 

@@ -55,6 +55,7 @@ Summary coverage rate:
         ("covcollect extract --large", "*.c", TEXT),
         ("covcollect remove --lcov2", "*.c", ""),
         ("covcollect gcov --test t", "", ""),
+        ("covcollect combine -q", "--expect 1", TEXT),
     ] {
         check(&rt, before, path, after, output)?;
     }

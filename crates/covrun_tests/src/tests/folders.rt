@@ -95,9 +95,10 @@ fn a_folder_of_one_file(rt: HostRuntime) -> Result<(), Fail> {
     )
 }
 
-/// A file whose first read returns one byte, and whose later reads fail.
+/// A file whose first `good` reads return one byte each, and whose later reads fail.
 #[derive(Drop)]
 struct Torn {
+    good: u64,
     reads: u64,
     failed: u64,
 }
@@ -112,7 +113,7 @@ impl Source for Torn {
     fn read(&mut self, buffer: &mut [u8]) -> Result<usize, Failed> {
         self.reads += 1;
         match buffer.first_mut() {
-            Some(first) if self.reads == 1 => {
+            Some(first) if self.reads <= self.good => {
                 *first = b'\n';
                 Ok(1)
             }
@@ -126,7 +127,9 @@ impl Source for Torn {
 
 /// A folder that opens a `Torn` file for each name.
 #[derive(Clone, Copy)]
-struct TornFiles;
+struct TornFiles {
+    good: u64,
+}
 
 impl Folder for TornFiles {
     ghost holds = { λ _ _. None };
@@ -140,6 +143,7 @@ impl Folder for TornFiles {
     fn open(&self, name: &str) -> Result<Opened<Torn>, Failed> {
         Ok(Opened {
             source: Torn {
+                good: self.good,
                 reads: 0,
                 failed: 0,
             },
@@ -152,6 +156,7 @@ impl Folder for TornFiles {
 /// A failed read rejects the file: the bytes before aren't accepted as the file's content.
 #[test]
 fn a_read_fails_within_a_file(rt: HostRuntime) -> Result<(), Fail> {
+    let folder = TornFiles { good: 1 };
     for asked in [
         "covcollect check torn.info",
         "covcollect summary torn.info",
@@ -159,7 +164,22 @@ fn a_read_fails_within_a_file(rt: HostRuntime) -> Result<(), Fail> {
         "covcollect check --large torn.info",
         "covcollect merge --large --strict torn.info",
     ] {
-        check_over(&rt, &TornFiles, asked, "", "torn.info: can't read\n")?;
+        check_over(&rt, &folder, asked, "", "torn.info: can't read\n")?;
+    }
+    Ok(())
+}
+
+/// `combine` reports each such file, whether the read of its first bytes fails or a later one.
+#[test]
+fn a_read_fails_within_each_file(rt: HostRuntime) -> Result<(), Fail> {
+    for good in [1, 20] {
+        check_over(
+            &rt,
+            &TornFiles { good },
+            "covcollect combine --jobs 2 torn.info other.info",
+            "",
+            "torn.info: can't be read\nother.info: can't be read\n",
+        )?;
     }
     Ok(())
 }

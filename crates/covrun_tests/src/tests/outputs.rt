@@ -111,13 +111,12 @@ impl OutputFolder for Shelf {
     }
 }
 
-/// Runs the command line `asked` with the output folder `files`. Returns the exit status, the error stream and the folder. Checks
-/// that the standard output is empty.
-fn call_onto<R: AllocGlobal + Threads + Wait + Abort + Sync, P: OutputFolder + Drop>(
+/// Runs the command line `asked` with the output folder `files`. Returns what the run wrote to its streams, and the folder.
+fn told_onto<R: AllocGlobal + Threads + Wait + Abort + Sync, P: OutputFolder + Drop>(
     rt: &R,
     asked: &str,
     files: P,
-) -> Result<(u8, Vec<u8>, P), Fail>
+) -> Result<(Told, P), Fail>
     requires begun { P.begun files ≡ None }
     requires few { P.failed files < 2 ^ 62 }
 {
@@ -133,7 +132,20 @@ fn call_onto<R: AllocGlobal + Threads + Wait + Abort + Sync, P: OutputFolder + D
     };
     let status = run(rt, &folder, words.as_slice(), &mut world);
     let World { files, sinks, .. } = world;
-    let told = Told::of(status, sinks);
+    Ok((Told::of(status, sinks), files))
+}
+
+/// Runs the command line `asked` with the output folder `files`. Returns the exit status, the error stream and the folder. Checks
+/// that the standard output is empty.
+fn call_onto<R: AllocGlobal + Threads + Wait + Abort + Sync, P: OutputFolder + Drop>(
+    rt: &R,
+    asked: &str,
+    files: P,
+) -> Result<(u8, Vec<u8>, P), Fail>
+    requires begun { P.begun files ≡ None }
+    requires few { P.failed files < 2 ^ 62 }
+{
+    let (told, files) = told_onto(rt, asked, files)?;
     check_text(rt, asked, told.output.as_slice(), "")?;
     Ok((told.status, told.faults, files))
 }
@@ -174,6 +186,19 @@ fn a_text_goes_onto_a_shelf(rt: HostRuntime) -> Result<(), Fail> {
     check_shelf(&rt, &files, "s.txt", text)
 }
 
+/// `combine` prints its summary when the file is on the shelf.
+#[test]
+fn a_summary_is_printed_beside_a_shelf(rt: HostRuntime) -> Result<(), Fail> {
+    let asked = "covcollect combine a.info -o b.info";
+    let (told, files) = told_onto(&rt, asked, shelf_of(rt.alloc(), 1))?;
+    check_text(&rt, asked, told.faults.as_slice(), "")?;
+    let summary = "Summary coverage rate:\n  lines......: 50.0% (1 of 2 lines)\n...\n";
+    check_text(&rt, asked, told.output.as_slice(), summary)?;
+    assert_eq!(rt; told.status, 0);
+    let text = "TN:\nSF:/src/a.c\nDA:1,2\nDA:2,0\nLF:2\nLH:1\nend_of_record\n";
+    check_shelf(&rt, &files, "b.info", text)
+}
+
 /// Checks that the shelf has only the file `name`, with the text `text`.
 fn check_shelf(
     rt: &(impl Abort + AllocGlobal),
@@ -206,6 +231,18 @@ fn a_file_cannot_be_written(rt: HostRuntime) -> Result<(), Fail> {
     let (status, faults, _) = call_onto(&rt, asked, NoFiles { failed: 0 })?;
     check_text(&rt, asked, faults.as_slice(), "none.info: can't write\n")?;
     assert_eq!(rt; status, 1);
+    Ok(())
+}
+
+/// A `combine` whose file can't be written prints no summary. The line about the file stands after the warnings.
+#[test]
+fn a_combined_file_cannot_be_written(rt: HostRuntime) -> Result<(), Fail> {
+    let asked = "covcollect combine --exclude x --fail-under-lines 60 -o full.info a.info";
+    let (status, faults, full) = call_onto(&rt, asked, shelf_of(rt.alloc(), 0))?;
+    let told = "warning: --exclude x: matches no source file\nfull.info: can't be written\n";
+    check_text(&rt, asked, faults.as_slice(), told)?;
+    assert_eq!(rt; status, 1);
+    assert!(rt; full.files.is_empty());
     Ok(())
 }
 
