@@ -25,8 +25,8 @@ use Rattle.covcombine.specs.declared.call_fault.CallOption.{CallOption}
 use Rattle.covcombine.specs.declared.note.Note.{Note}
 use Rattle.covcombine.specs.declared.note.Note.TheVariants.{Unreadable, Strange, NoRecord, Faulty, Merged}
 
--- what a call gives that doesn't fail. `tracefile`: the merged tracefile. `overview`: what is shown of it if it goes into a file. `missed`: lines
--- about rates below their limits
+-- what a call gives that doesn't fail. `tracefile`: the merged tracefile. `overview`: what is shown of it if it goes into a file. `missed`:
+-- lines about rates below their limits
 pub record GivenData : Type 0 where
   pub warnings : List ℕ
   pub tracefile : List ℕ

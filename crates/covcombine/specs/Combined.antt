@@ -72,8 +72,8 @@ IsUnfiled name warnings status old new =
     (status ≡ 1) × (new.files.finished ≡ old.files.finished) × (new.files.begun ≡ old.files.begun) × (new.files.failed ≡ suc old.files.failed)
     × Withholds old.sinks new.sinks × Complains (warnings ++ unwritten_line name) old.sinks new.sinks
 
--- how an ending is reported. `file`: the name of the file that the call names, unless that is standard output. The file is finished with the
--- whole tracefile, and only then the overview is printed
+-- how an ending is reported. `file`: the name of the file that the call names, unless that is standard output. The file is finished with
+-- the whole tracefile, and only then the overview is printed
 abbrev pub IsReported : (file : Option (List ℕ)) → EndingData → (status : ℕ) → WorldData → WorldData → Type 0
 IsReported file (Fails failed lines) status old new =
     (status ≡ failed) × (new.files ≡ old.files) × Withholds old.sinks new.sinks × Complains lines old.sinks new.sinks

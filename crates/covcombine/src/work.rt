@@ -11,7 +11,9 @@ ghost use Rattle.covcombine.specs.Steps.{AreNames, ArePatterns, HasRoom, IsNameF
 ghost use Rattle.covcombine.specs.View.{work_data};
 
 use crate::call_fault::{CallFault, CallOption, WorkFault};
-use covcommand::{CombineOptions, Limits as LimitWords, Overview, SourceFilter, Strictness, TotalsForm};
+use covcommand::{
+    CombineOptions, Limits as LimitWords, Overview, SourceFilter, Strictness, TotalsForm,
+};
 use covdata::{Bytes, Memory};
 use covlimit::{Limits, Rate};
 use covreport::{Choice, PatternFault, Patterns};
