@@ -1,10 +1,8 @@
 -- Which ending a call has, from the results of its steps.
-use Rattle.std.proofs.Common.{◌≡◌, inl, inr, ℕ, List, [], ◌∷◌, ◌++◌, length, refl, sym, ap, subst, ◌∙◌}
-use Rattle.std.specs.Prelude.{◌*◌}
+use Rattle.std.proofs.Common.{◌≡◌, inl, inr, ℕ, List, [], ◌∷◌, ◌++◌, refl, sym, ap, subst, ◌∙◌}
 use Rattle.covbook.specs.Op.{EntryData}
-use Rattle.covlarge.specs.Large.{max_pieces}
 use Rattle.covtable.specs.Content.{SectionData}
-use Rattle.covworkers.specs.Late.{IsCollectedSoFar, MayCome}
+use Rattle.covworkers.specs.Late.{FillHistory, IsCollectedSoFar, MayCome}
 use Rattle.covworkers.specs.Start.{AreJobs}
 use Rattle.covworkers.specs.declared.collect_fault.CollectFault.{CollectFault}
 use Rattle.covworkers.specs.declared.collect_fault.CollectFault.TheVariants as collects
@@ -36,5 +34,5 @@ pub ends_collected : (folder : FolderData) (jobs : ℕ) (work : CombineData) (en
 ends_collected folder jobs work ending entries notes collected is = inr (inr (entries, notes, collected, is))
 
 pub ends_uncollected : (folder : FolderData) (jobs : ℕ) (work : CombineData) (ending : EndingData) (fault : CollectFault) → (fault ≡ collects.BadJobs → AreJobs jobs → ⊥)
-    → MayCome (length work.files * max_pieces) fault → ending ≡ of_collecting fault → Ends folder jobs work ending
+    → MayCome (FillHistory (IsOfFile folder work.strictness) work.files) fault → ending ≡ of_collecting fault → Ends folder jobs work ending
 ends_uncollected folder jobs work ending fault bad may is = inr (inl (fault, bad, may, is))

@@ -100,7 +100,7 @@ pub has_more : {X : Type 0} (text : X → List ℕ) (keys : List X) (key : X) (n
     → has text (insert_key (λ x y. slice_cmp nat_cmp (text x) (text y)) keys key) q ≡ list_any (bytes_eq q) (names ++ text key ∷ [])
 has_more {X} text keys key names q same =
     any_inserted (λ x y. slice_cmp nat_cmp (text x) (text y)) (is_at (λ k. slice_cmp nat_cmp q (text k))) key keys
-        (λ (x : X) is. ap (λ (t : List ℕ). is_eq (slice_cmp nat_cmp q t)) (same_text (text key) (text x) is))
+    (λ (x : X) is. ap (λ (t : List ℕ). is_eq (slice_cmp nat_cmp q t)) (same_text (text key) (text x) is))
     ∙ ap (λ (b : Bool). b || has text keys q) (is_eq-slice_cmp q (text key))
     ∙ ap (λ (b : Bool). bytes_eq q (text key) || b) same
     ∙ or_last (bytes_eq q (text key)) (list_any (bytes_eq q) names)

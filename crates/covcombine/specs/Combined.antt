@@ -1,14 +1,13 @@
 -- One call of `combine`: what is in the file and on standard output, which lines are on standard error, and which status it has.
-use Rattle.std.specs.Prelude.{◌≡◌, ◌⊎◌, ◌*◌, ◌++◌, ℕ, suc, List, [], ◌∷◌, codes, length, Option, None, Some}
+use Rattle.std.specs.Prelude.{◌≡◌, ◌⊎◌, ◌++◌, ℕ, suc, List, [], ◌∷◌, codes, Option, None, Some}
 use Rattle.covbook.specs.Op.{EntryData}
 use Rattle.covcommand.specs.declared.asked.CombineOptions.{CombineOptions}
 use Rattle.covcommand.specs.declared.asked.Strictness.{Strictness}
-use Rattle.covlarge.specs.Large.{max_pieces}
 use Rattle.covsession.specs.Fault.{HasBegun}
 use Rattle.covsession.specs.Program.{words_of_fault}
 use Rattle.covsession.specs.Session.{said}
 use Rattle.covsession.specs.declared.session.fault.SessionFault.TheVariants as sessions
-use Rattle.covworkers.specs.Late.{IsCollectedSoFar, MayCome}
+use Rattle.covworkers.specs.Late.{FillHistory, IsCollectedSoFar, MayCome}
 use Rattle.covworkers.specs.Start.{AreJobs}
 use Rattle.covworkers.specs.declared.collect_fault.CollectFault.{CollectFault}
 use Rattle.covworkers.specs.declared.collect_fault.CollectFault.TheVariants as collects
@@ -30,20 +29,21 @@ use Rattle.covcombine.specs.declared.note.Note.{Note}
 abbrev pub out_of_memory : EndingData
 out_of_memory = Fails 3 (said (words_of_fault sessions.Memory))
 
--- collecting stopped. The faults beside the first two never come
+-- collecting stopped. `Gather` and `NotLast` never come, and `BadJobs` only for a number of jobs that the command line doesn't take
 abbrev pub of_collecting : CollectFault → EndingData
-of_collecting collects.Full = Fails 3 (said (codes "the files have more than 1048576 pieces: combine them in parts"))
+of_collecting collects.Full = Fails 3 (said (codes "the files have 1048576 pieces or more: combine them in parts"))
 of_collecting collects.Memory = out_of_memory
-of_collecting collects.BadJobs = Fails 3 (said (codes "gather"))
+of_collecting collects.BadJobs = Fails 3 (said (codes "the number of jobs isn't from 1 to 64"))
 of_collecting (collects.Gather fault) = Fails 3 (said (codes "gather"))
 of_collecting collects.NotLast = Fails 3 (said (codes "gather"))
 
 -- how a call ends that begins its work: memory ran out; or collecting stopped, which isn't for the number of jobs unless that is out of
--- range; or the files were collected by this number of jobs, and the history and the notes decide
+-- range, and not for a full history unless the files fill it; or the files were collected by this number of jobs, and the history and
+-- the notes decide
 abbrev pub Ends : FolderData → (jobs : ℕ) → CombineData → EndingData → Type 0
 Ends folder jobs work ending =
     (ending ≡ out_of_memory)
-    ⊎ (((fault : CollectFault) × (fault ≡ collects.BadJobs → AreJobs jobs → ⊥) × MayCome (length work.files * max_pieces) fault × (ending ≡ of_collecting fault))
+    ⊎ (((fault : CollectFault) × (fault ≡ collects.BadJobs → AreJobs jobs → ⊥) × MayCome (FillHistory (IsOfFile folder work.strictness) work.files) fault × (ending ≡ of_collecting fault))
     ⊎ ((entries : List EntryData) × (notes : List (RefusedInput Note))
     × IsCollectedSoFar (IsOfFile folder work.strictness) work.files jobs entries notes × (ending ≡ end_of work entries notes)))
 

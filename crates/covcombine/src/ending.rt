@@ -6,6 +6,7 @@ ghost use Rattle.std.specs.String.{string_bytes};
 ghost use Rattle.covbook.specs.EntryView.{entry_data};
 ghost use Rattle.covbook.specs.View.{answer_data};
 ghost use Rattle.covreport.specs.ChoiceView.{choice_data};
+ghost use Rattle.covworkers.specs.Late.{MayComeAtAll};
 ghost use Rattle.covcombine.specs.Combine.{answer_status as status_of_answer, clash_lines, clash_of_answer, end_of as ends_with, failure_status as worst_status, failures as failures_of, given as given_of, is_clash as is_clash_answer, is_merged, is_whole as is_whole_call, judged_by, lines_by, merged_in, misfits_told, overview_text, pattern_lines, refusal_of, unexpected, unmatched, warning_of, warnings as warnings_of};
 ghost use Rattle.covcombine.specs.Combined.{of_call_fault, of_collecting, out_of_memory};
 ghost use Rattle.covcombine.specs.View.{ending_data, given_data, work_data};
@@ -82,16 +83,17 @@ pub(crate) fn end_for_fault<'b>(
 
 /// The ending of a call whose collecting stopped.
 pub(crate) fn end_for_collecting<'b>(fault: CollectFault) -> Ending<'b>
+    requires { MayComeAtAll fault }
     ensures { ending_data result ≡ of_collecting fault }
 {
     match fault {
         CollectFault::Full => Ending::Stopped(
-            b"the files have more than 1048576 pieces: combine them in parts\n",
+            b"the files have 1048576 pieces or more: combine them in parts\n",
         ),
         CollectFault::Memory => no_memory(),
-        CollectFault::BadJobs | CollectFault::Gather(_) | CollectFault::NotLast => {
-            Ending::Stopped(b"gather\n")
-        }
+        CollectFault::BadJobs => Ending::Stopped(b"the number of jobs isn't from 1 to 64\n"),
+        // `collect` alone returns these.
+        CollectFault::Gather(_) | CollectFault::NotLast => unreachable!(),
     }
 }
 
@@ -214,12 +216,7 @@ fn put_warnings(
     ensures { OnOk result (lines.new ≡ lines.old ++ lines_by (warning_of strictness) (map string_bytes files.now) notes.now) }
 {
     for note in notes {
-        put_warning(
-            strictness,
-            file_name(files, note.index),
-            &note.fault,
-            lines,
-        )?;
+        put_warning(strictness, file_name(files, note.index), &note.fault, lines)?;
     }
     Ok(())
 }
@@ -267,12 +264,7 @@ fn put_refusals(
     ensures { OnOk result (lines.new ≡ lines.old ++ lines_by (refusal_of strictness) (map string_bytes files.now) notes.now) }
 {
     for note in notes {
-        put_refusal(
-            strictness,
-            file_name(files, note.index),
-            &note.fault,
-            lines,
-        )?;
+        put_refusal(strictness, file_name(files, note.index), &note.fault, lines)?;
     }
     Ok(())
 }

@@ -61,7 +61,7 @@ use std::thread::Threads;
 ///
 /// The status is that of the first of these that applies, and the error stream has all lines that it asks for:
 /// - 2 if the options are wrong, or 5 if no file is named although some are expected;
-/// - 3 if memory ran out, or the files have too many chunks;
+/// - 3 if memory ran out, the files have too many chunks, or the number of jobs isn't from 1 to 64;
 /// - 1, 4 or 5 for the worst of what came of the files: one can't be read (1); one is invalid, or checksums clash (4); one is no
 ///   tracefile, another number of files was read than is expected, or in a strict call something is doubtful (5);
 /// - 1 if the file or the output can't be written;

@@ -99,12 +99,7 @@ fn put_kind(name: &[u8], kind: Stranger, lines: &mut Bytes) -> Result<(), Memory
 }
 
 /// Appends that the file called `name` is packed, and how `program` unpacks it for this call.
-fn put_packed(
-    name: &[u8],
-    format: &[u8],
-    program: &[u8],
-    lines: &mut Bytes,
-) -> Result<(), Memory>
+fn put_packed(name: &[u8], format: &[u8], program: &[u8], lines: &mut Bytes) -> Result<(), Memory>
     ensures { OnOk result (lines.new ≡ lines.old ++ packed_words name.now format.now program.now) }
 {
     lines.append(b"packed by ")?;

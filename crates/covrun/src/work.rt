@@ -60,7 +60,10 @@ pub(crate) enum Task {
     /// Collects files and prints an answer.
     Collect(Work),
     /// Checks files, each by itself.
-    Check { options: CheckOptions, files: Names },
+    Check {
+        options: CheckOptions,
+        files: Names,
+    },
     /// Combines files.
     Combine {
         options: CombineOptions,
