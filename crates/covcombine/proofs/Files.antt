@@ -1,23 +1,20 @@
 -- What is collected of the inputs is collected of the files of their names.
-use Rattle.std.proofs.Common.{◌≡◌, ℕ, zero, suc, ◌+◌, ◌*◌, ◌<◌, ◌≤◌, List, [], ◌∷◌, ◌++◌, length, map, Option, refl, sym, ap, ◌∙◌, subst, arith}
-use Rattle.std.proofs.Math.Nat.{zero-mul}
+use Rattle.std.proofs.Common.{◌≡◌, ℕ, zero, suc, ◌<◌, ◌≤◌, List, [], ◌∷◌, ◌++◌, length, map, Option, sym, ap, ◌∙◌, subst, arith}
 use Rattle.std.proofs.lemmas.List.{length-map}
-use Rattle.std.proofs.lemmas.List.Sums.{sum_by-cons}
-use Rattle.std.specs.List.{AllByRecursion, sum_by}
+use Rattle.std.specs.List.{AllByRecursion}
 use Rattle.covbook.specs.Gather.{LogData}
 use Rattle.covbook.specs.Op.{EntryData, OpData}
-use Rattle.covbook.specs.Step.{next_entry}
+use Rattle.covbook.specs.Step.{max_entries, next_entry}
 use Rattle.covbook.specs.Texts.{IsText}
 use Rattle.covcommand.specs.declared.asked.Strictness.{Strictness}
-use Rattle.covlarge.specs.Large.{max_pieces}
-use Rattle.covworkers.specs.Collect.{AreOutcomes, IsCollectedWith, OutcomeData}
-use Rattle.covworkers.specs.Late.{IsCollectedSoFar, IsFirstUnread, MayCome}
+use Rattle.covworkers.specs.Collect.{AreOutcomes, IsCollectedWith, OutcomeData, all_places, submissions_of}
+use Rattle.covworkers.specs.Late.{FillHistory, IsCollectedSoFar, IsFirstUnread, MayCome, MayComeAtAll}
 use Rattle.covworkers.specs.declared.collect_fault.CollectFault.{CollectFault}
 use Rattle.covworkers.specs.declared.collect_fault.CollectFault.TheVariants as collects
 use Rattle.covworkers.specs.declared.refused.RefusedInput.{RefusedInput}
 use Rattle.covworld.specs.Folder.{FolderData}
 use Rattle.covcombine.specs.Notes.{IsOfFile}
-use Rattle.covcombine.specs.Steps.{MayGiveFrom, most_parts}
+use Rattle.covcombine.specs.Steps.{MayGiveFrom}
 use Rattle.covcombine.specs.declared.note.Note.{Note}
 use Rattle.covcombine.specs.declared.opened.Stage.{Stage}
 use Rattle.covcombine.specs.declared.opened.Stage.TheVariants.{Unopened}
@@ -64,22 +61,32 @@ module _ {X Folder S : Type 0} (view : InputView X Folder S) (at : Folder) (stri
             (logs, subst (λ (n : ℕ). IsCollectedWith outcome n jobs last (entries ++ next_entry entries 0 last ∷ []) logs refused) many collected),
       )
 
-  -- each input has at most so many parts
-  all_most : (inputs : List X) → AreOwn view at strictness inputs → AllByRecursion (λ one. most_parts (view.stage one) ≡ max_pieces) inputs
-  all_most [] own = tt
-  all_most (one ∷ inputs) own = (ap (λ (s : Stage S). most_parts s) own.0.2, all_most inputs own.1)
+  -- inputs that fill the history are files that fill it
+  filled : (inputs : List X) (names : List (List ℕ)) → map view.name inputs ≡ names → AreOwn view at strictness inputs → FillHistory (GivesIn view of left failed_reads) inputs
+      → FillHistory (IsOfFile (of at) strictness) names
+  filled inputs names named own (outcome, are, many) =
+      let same : length inputs ≡ length names = sym (length-map inputs view.name) ∙ ap length named in (
+        outcome,
+        subst (λ (ns : List (List ℕ)). AreOutcomes (IsOfFile (of at) strictness) ns outcome) named (outcomes_of inputs outcome own are),
+        subst (λ (n : ℕ). max_entries ≤ length (submissions_of all_places outcome n)) same many,
+      )
 
-  sum_same : (most : X → ℕ) (n : ℕ) (inputs : List X) → AllByRecursion (λ one. most one ≡ n) inputs → sum_by most inputs ≡ length inputs * n
-  sum_same most n [] all = sym (zero-mul n)
-  sum_same most n (one ∷ inputs) all =
-      sum_by-cons most one inputs ∙ ap (λ (k : ℕ). k + sum_by most inputs) all.0 ∙ ap (λ (k : ℕ). n + k) (sum_same most n inputs all.1)
-
-  -- a fault of collecting the inputs is one of collecting so many files
+  -- a fault of collecting the inputs is one of collecting the files
   pub may_come : (inputs : List X) (names : List (List ℕ)) (fault : CollectFault) → map view.name inputs ≡ names → AreOwn view at strictness inputs
-      → MayCome (sum_by (λ one. most_parts (view.stage one)) inputs) fault → MayCome (length names * max_pieces) fault
-  may_come inputs names fault named own comes =
-      let many : length inputs ≡ length names = sym (length-map inputs view.name) ∙ ap length named in
-      subst (λ (n : ℕ). MayCome n fault) (sum_same (λ one. most_parts (view.stage one)) max_pieces inputs (all_most inputs own) ∙ ap (λ (n : ℕ). n * max_pieces) many) comes
+      → MayCome (FillHistory (GivesIn view of left failed_reads) inputs) fault → MayCome (FillHistory (IsOfFile (of at) strictness) names) fault
+  may_come inputs names collects.BadJobs named own may = tt
+  may_come inputs names collects.Full named own may = filled inputs names named own may
+  may_come inputs names collects.Memory named own may = tt
+  may_come inputs names (collects.Gather fault) named own may = absurd may
+  may_come inputs names collects.NotLast named own may = absurd may
+
+-- neither `Gather` nor `NotLast` comes, whatever fills the history
+pub at_all : (Fill : Type 0) (fault : CollectFault) → MayCome Fill fault → MayComeAtAll fault
+at_all Fill collects.BadJobs may = tt
+at_all Fill collects.Full may = tt
+at_all Fill collects.Memory may = tt
+at_all Fill (collects.Gather fault) may = absurd may
+at_all Fill collects.NotLast may = absurd may
 
 -- no input turns out to be unreadable
 pub none_unread : {X : Type 0} (MayGive : X → OutcomeData Note → Type 0) (inputs : List X) (index : ℕ) → IsFirstUnread MayGive (λ one. ⊥) inputs index → ⊥

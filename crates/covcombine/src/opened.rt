@@ -49,13 +49,6 @@ impl<S: Source + Drop> Opened<S> {
     ghost use Rattle.std.specs.Prelude.{◌≡◌, IfOk, IfErr};
     ghost use Rattle.covcombine.specs.Steps.{EndsWith, IsNextStage, MayGiveOpened};
 
-    /// How many more chunks may be read.
-    pub(crate) fn most_pieces(&self) -> u64
-        ensures { result ≡ self.now.rest.left }
-    {
-        self.rest.most_pieces()
-    }
-
     /// Reads the next chunk. Returns the chunk's submission and the next stage.
     pub(crate) fn next_stage(self, alloc: Global) -> Result<(Given, Stage<S>), Stop>
         ensures next { IfOk result (λ r. IsNextStage S.left S.failed_reads self r.0 r.1) }

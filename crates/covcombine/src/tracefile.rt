@@ -5,7 +5,6 @@ use crate::opened::{Opened, Stage, open};
 use crate::stop::Stop;
 use covcommand::Strictness;
 use covdata::Memory;
-use covlarge::MAX_PIECES;
 use covworkers::{LateFault, LateInput, Part};
 use covworld::Folder;
 use std::alloc::Global;
@@ -56,15 +55,6 @@ impl<'a, F: Folder> LateInput<Global> for Tracefile<'a, F> {
                 },
             )),
             Err(stop) => Err(stop.into_fault()),
-        }
-    }
-
-    /// The number of chunks that may still be read.
-    fn most_parts(&self) -> u64 {
-        match &self.stage {
-            Stage::Unopened => MAX_PIECES,
-            Stage::Reading(opened) => opened.most_pieces(),
-            Stage::Ended(_) => 0,
         }
     }
 }
