@@ -108,7 +108,7 @@ pub(crate) fn end_of<'b>(
     let warnings = warnings(alloc, &work, collected)?;
     let failures = failures(alloc, &work, collected)?;
     if failures.get().is_empty() {
-        let given = given(alloc, work, collected.book.store(), warnings)?;
+        let given = given_for(alloc, work, collected.book.store(), warnings)?;
         return Ok(Ending::Gives(given));
     }
     let mut lines = warnings;
@@ -120,7 +120,7 @@ pub(crate) fn end_of<'b>(
 }
 
 /// Prepares what a call gives of the chosen source files of `store`.
-fn given<'b>(
+fn given_for<'b>(
     alloc: Global,
     work: Work<'_>,
     store: &'b Store,

@@ -93,7 +93,7 @@ fn unknown_in(held: &Option<Held>) -> u64
 }
 
 /// Opens the file called `name`, and looks at its first bytes. A file that is no tracefile ends with its note.
-pub(crate) fn open<F: Folder>(
+pub(crate) fn open_file<F: Folder>(
     folder: &F,
     alloc: Global,
     name: &str,

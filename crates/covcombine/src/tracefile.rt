@@ -1,7 +1,7 @@
 //! Files as inputs of collecting.
 
 use crate::note::Note;
-use crate::opened::{Opened, Stage, open};
+use crate::opened::{Opened, Stage, open_file};
 use crate::stop::Stop;
 use covcommand::Strictness;
 use covdata::Memory;
@@ -78,7 +78,7 @@ fn opened_at<F: Folder>(
     ensures ended { IfErr result (EndsWith (MayGiveFrom F.File.left F.File.failed_reads (folder_data F.Folder F.File.Source folder.now) strictness name.now stage)) }
 {
     match stage {
-        Stage::Unopened => open(folder, alloc, name, strictness),
+        Stage::Unopened => open_file(folder, alloc, name, strictness),
         Stage::Reading(opened) => Ok(opened),
         Stage::Ended(note) => Err(Stop::Ended(note)),
     }
