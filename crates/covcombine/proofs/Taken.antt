@@ -4,6 +4,12 @@ use Rattle.std.proofs.lemmas.List.{length-map, length-take-le}
 use Rattle.std.specs.List.{AllByRecursion}
 use Rattle.std.specs.Prelude.{Contains, IfSome}
 use Rattle.covcommand.specs.declared.asked.CombineOptions.{CombineOptions}
+use Rattle.covcommand.specs.declared.asked.Limits.{Limits}
+use Rattle.covcommand.specs.declared.asked.Overview.{Overview}
+use Rattle.covcommand.specs.declared.asked.Overview.TheVariants as overviews
+use Rattle.covcommand.specs.declared.asked.SourceFilter.{SourceFilter}
+use Rattle.covcommand.specs.declared.asked.TotalsForm.{TotalsForm}
+use Rattle.covcommand.specs.declared.asked.TotalsForm.TheVariants as forms
 use Rattle.covlimit.specs.Rates.{IsRate}
 use Rattle.covreport.specs.Choice.{AllFiles, Filtered, max_pattern_bytes, max_patterns}
 use Rattle.covreport.specs.declared.patterns.PatternFault.{PatternFault}
@@ -14,11 +20,60 @@ use Rattle.covcombine.specs.Steps.{AreNames, ArePatterns, HasRoom, IsNameFault, 
 use Rattle.covcombine.specs.declared.call_fault.CallFault.{CallFault}
 use Rattle.covcombine.specs.declared.call_fault.CallFault.TheVariants.{ManyPatterns, LongPattern, NoRate, NoRoom, NoName, Twice}
 use Rattle.covcombine.specs.declared.call_fault.CallOption.{CallOption}
+use Rattle.covcombine.specs.declared.call_fault.CallOption.TheVariants.{Include, Exclude, FailUnderLines, FailUnderFunctions, FailUnderBranches, List as ShowList, Json as PrintJson}
 use Rattle.covcombine.specs.declared.call_fault.WorkFault.{WorkFault}
 use Rattle.covcombine.specs.declared.call_fault.WorkFault.TheVariants as works
 
 apart : (n most : ℕ) → n ≤ most → most < n → ⊥
 apart n most few many = omega (arith, few, many)
+
+-- ---- option by option
+
+no_patterns : ArePatterns []
+no_patterns = (omega arith, tt)
+
+-- the patterns of both options are taken, and no other option has patterns
+pub taken_each : (filter : SourceFilter) → ArePatterns filter.includes → ArePatterns filter.excludes → (option : CallOption) → ArePatterns (patterns_in option filter)
+taken_each filter includes excludes Include = includes
+taken_each filter includes excludes Exclude = excludes
+taken_each filter includes excludes FailUnderLines = no_patterns
+taken_each filter includes excludes FailUnderFunctions = no_patterns
+taken_each filter includes excludes FailUnderBranches = no_patterns
+taken_each filter includes excludes ShowList = no_patterns
+taken_each filter includes excludes PrintJson = no_patterns
+
+-- the thresholds of all three options do, and no other option has one
+pub rates_each : (limits : Limits) → IfSome limits.lines IsRate → IfSome limits.functions IsRate → IfSome limits.branches IsRate → (option : CallOption) → IfSome (limit_in option limits) IsRate
+rates_each limits lines functions branches Include = tt
+rates_each limits lines functions branches Exclude = tt
+rates_each limits lines functions branches FailUnderLines = lines
+rates_each limits lines functions branches FailUnderFunctions = functions
+rates_each limits lines functions branches FailUnderBranches = branches
+rates_each limits lines functions branches ShowList = tt
+rates_each limits lines functions branches PrintJson = tt
+
+no_list : (overview : Overview) → overview ≡ overviews.Summary → overview ≡ overviews.List → ⊥
+no_list overview is asks = cc
+
+no_json : (form : TotalsForm) → form ≡ forms.Words → form ≡ forms.Json → ⊥
+no_json form is asks = cc
+
+no_file : (name : List ℕ) → (let file : Option (List ℕ) = Some name in let none : Option (List ℕ) = None in file ≡ none) → ⊥
+no_file name e = cc
+
+-- a file leaves standard output to what the options ask for
+pub room_beside : (options : CombineOptions) (name : List ℕ) → HasRoom options (Some name)
+room_beside options name option none asks = no_file name none
+
+-- no option asks for anything on standard output
+pub room_unasked : (options : CombineOptions) (file : Option (List ℕ)) → options.overview ≡ overviews.Summary → options.form ≡ forms.Words → HasRoom options file
+room_unasked options file summary words Include none asks = asks
+room_unasked options file summary words Exclude none asks = asks
+room_unasked options file summary words FailUnderLines none asks = asks
+room_unasked options file summary words FailUnderFunctions none asks = asks
+room_unasked options file summary words FailUnderBranches none asks = asks
+room_unasked options file summary words ShowList none asks = no_list options.overview summary asks
+room_unasked options file summary words PrintJson none asks = no_json options.form words asks
 
 -- ---- all options do
 
