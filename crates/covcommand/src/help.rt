@@ -28,7 +28,7 @@ Exit status:
   2  the call is wrong: its words, a pattern, a limit or the name of a test
   3  memory ran out, or the history is full
   4  a file was refused, or checksums clash; nothing is printed, but by check
-  5  a file has no items (check, combine), too few files were read (combine), or
+  5  a file has no items (check, combine), not N files were read (--expect), or
      --strict found what it refuses
   6  less is hit than --fail-under-.. asks for, or there is nothing to hit";
 
