@@ -17,6 +17,7 @@ use Rattle.covreport.specs.Choice.{ChoiceData, AllFiles, Extracted, Removed, Fil
 use Rattle.covreport.specs.Report.{report_text}
 use Rattle.covreport.specs.Summary.{summary_of}
 use Rattle.covtable.specs.Content.{SectionData, content_at}
+use Rattle.covtable.specs.Files.{FileTotalsData, files_with_totals}
 use Rattle.covworkers.specs.declared.refused.RefusedInput.{RefusedInput}
 use Rattle.covcombine.specs.Messages.{clash_line, expected_line, fault_line, misfits_line, no_record_line, none_left_line, option_name, strange_words, told, unmatched_line, unreadable_line}
 use Rattle.covcombine.specs.Options.{CombineData}
@@ -105,15 +106,15 @@ excludes_of (Removed patterns) = []
 excludes_of (Filtered includes excludes) = excludes
 
 -- a line about each pattern of the option that matches no source file
-abbrev pub unmatched : (front : List ℕ) → CallOption → List SectionData → (patterns : List (List ℕ)) → List ℕ
-unmatched front option sections patterns =
-    flat_map (λ pattern. if is_matched sections pattern then [] else unmatched_line front (option_name option) pattern) patterns
+abbrev pub unmatched : (front : List ℕ) → CallOption → List FileTotalsData → (patterns : List (List ℕ)) → List ℕ
+unmatched front option files patterns =
+    flat_map (λ pattern. if is_matched files pattern then [] else unmatched_line front (option_name option) pattern) patterns
 
 -- what is doubtful of the patterns: those that match no source file, and that they leave none
-abbrev pub pattern_lines : (front : List ℕ) → ChoiceData → List SectionData → List ℕ
-pattern_lines front choice sections =
-    unmatched front Include sections (includes_of choice)
-    ++ (unmatched front Exclude sections (excludes_of choice) ++ (if chooses_any choice sections then [] else none_left_line front))
+abbrev pub pattern_lines : (front : List ℕ) → ChoiceData → List FileTotalsData → List ℕ
+pattern_lines front choice files =
+    unmatched front Include files (includes_of choice)
+    ++ (unmatched front Exclude files (excludes_of choice) ++ (if chooses_any choice files then [] else none_left_line front))
 
 abbrev pub is_clash : AnswerData → Bool
 is_clash (AcceptedAnswer number items odd) = false
@@ -130,7 +131,7 @@ is_whole entries notes =
 
 -- patterns are judged by the whole alone
 abbrev pub judged_by : (front : List ℕ) → ChoiceData → List EntryData → List (RefusedInput Note) → List ℕ
-judged_by front choice entries notes = if is_whole entries notes then pattern_lines front choice (content_at (table_of (ops_in entries))) else []
+judged_by front choice entries notes = if is_whole entries notes then pattern_lines front choice (files_with_totals (content_at (table_of (ops_in entries)))) else []
 
 abbrev pub pattern_warnings : Strictness → ChoiceData → List EntryData → List (RefusedInput Note) → List ℕ
 pattern_warnings Lenient choice entries notes = judged_by (codes "warning: ") choice entries notes

@@ -21,10 +21,10 @@ work_data work = record {
   expected = work.expected;
 }
 
-abbrev pub given_data : Given → GivenData
+abbrev pub given_data : {T Plan Renaming : Type 0} → Given T Plan Renaming → GivenData
 given_data given = record { warnings = given.warnings; tracefile = given.tracefile; overview = given.overview; missed = given.missed }
 
-abbrev pub ending_data : Ending → EndingData
+abbrev pub ending_data : {T Plan Renaming : Type 0} → Ending T Plan Renaming → EndingData
 ending_data (endings.Stopped line) = Fails 3 line.now
 ending_data (endings.Fails status lines) = Fails status lines
 ending_data (endings.Gives given) = Gives (given_data given)

@@ -5,6 +5,7 @@ ghost use Rattle.std.specs.List.{list_all};
 ghost use Rattle.std.specs.String.{string_bytes};
 ghost use Rattle.covbook.specs.EntryView.{entry_data};
 ghost use Rattle.covbook.specs.View.{answer_data};
+ghost use Rattle.covtable.specs.ValuesView.{file_totals_data};
 ghost use Rattle.covreport.specs.ChoiceView.{choice_data};
 ghost use Rattle.covworkers.specs.Late.{MayComeAtAll};
 ghost use Rattle.covcombine.specs.Combine.{answer_status as status_of_answer, clash_lines, clash_of_answer, end_of as ends_with, failure_status as worst_status, failures as failures_of, given as given_of, is_clash as is_clash_answer, is_merged, is_whole as is_whole_call, judged_by, lines_by, merged_in, misfits_told, overview_text, pattern_lines, refusal_of, unexpected, unmatched, warning_of, warnings as warnings_of};
@@ -23,51 +24,50 @@ use covcommand::{Overview, Strictness, TotalsForm};
 use covdata::{Bytes, Memory};
 use covlimit::shortfall_lines;
 use covlist::{list_json, list_table, matches_a_file, summary_json, takes_a_file};
-use covnamed::{CollectedBook, Printing};
-use covreport::{Choice, Patterns, chosen_totals, summary_text};
+use covreport::{Choice, Patterns, Printing, Table, chosen_totals, summary_text};
 use covsession::{SessionFault, line_of};
-use covstore::Store;
-use covworkers::{CollectFault, RefusedInput};
+use covtable::FileTotals;
+use covworkers::{CollectFault, CollectedBook, RefusedInput};
 use covworld::ReadyText;
 use std::alloc::Global;
 
 /// How a call ends.
 #[derive(Drop)]
-pub(crate) enum Ending<'b> {
+pub(crate) enum Ending<'b, T: Table<Global>> {
     /// The call is stopped with status 3 and this line, which isn't allocated.
     Stopped(&'static [u8]),
     /// The call fails with this status and these lines.
     Fails { status: u8, lines: Bytes },
     /// The call has a tracefile.
-    Gives(Given<'b>),
+    Gives(Given<'b, T>),
 }
 
 /// What a call gives. All memory for printing is reserved.
 #[derive(Drop)]
-pub(crate) struct Given<'b> {
+pub(crate) struct Given<'b, T: Table<Global>> {
     /// The warnings.
     pub(crate) warnings: Bytes,
     /// The merged tracefile.
-    pub(crate) tracefile: ReadyText<'b>,
+    pub(crate) tracefile: ReadyText<'b, T>,
     /// What is shown of the tracefile if it goes into a file.
-    pub(crate) overview: ReadyText<'b>,
+    pub(crate) overview: ReadyText<'b, T>,
     /// The lines about rates below their thresholds.
     pub(crate) missed: Bytes,
 }
 
 /// The ending of a call for which memory ran out.
-pub(crate) fn no_memory<'b>() -> Ending<'b>
+pub(crate) fn no_memory<'b, T: Table<Global>>() -> Ending<'b, T>
     ensures { ending_data result ≡ out_of_memory }
 {
     Ending::Stopped(line_of(SessionFault::Memory))
 }
 
 /// The ending of a call that isn't begun. `expected` is the number of files that the call expects.
-pub(crate) fn end_for_fault<'b>(
+pub(crate) fn end_for_fault<'b, T: Table<Global>>(
     alloc: Global,
     expected: Option<u32>,
     fault: CallFault<'_>,
-) -> Result<Ending<'b>, Memory>
+) -> Result<Ending<'b, T>, Memory>
     ensures { IfOk result (λ ending. ending_data ending ≡ of_call_fault expected fault) }
 {
     let mut lines = Bytes::new(alloc);
@@ -82,7 +82,7 @@ pub(crate) fn end_for_fault<'b>(
 }
 
 /// The ending of a call whose collecting stopped.
-pub(crate) fn end_for_collecting<'b>(fault: CollectFault) -> Ending<'b>
+pub(crate) fn end_for_collecting<'b, T: Table<Global>>(fault: CollectFault) -> Ending<'b, T>
     requires { MayComeAtAll fault }
     ensures { ending_data result ≡ of_collecting fault }
 {
@@ -98,11 +98,11 @@ pub(crate) fn end_for_collecting<'b>(fault: CollectFault) -> Ending<'b>
 }
 
 /// How a call ends after its files are collected.
-pub(crate) fn end_of<'b>(
+pub(crate) fn end_of<'b, T: Table<Global>>(
     alloc: Global,
     work: Work<'_>,
-    collected: &'b CollectedBook<Note>,
-) -> Result<Ending<'b>, Memory>
+    collected: &'b CollectedBook<T, Note>,
+) -> Result<Ending<'b, T>, Memory>
     ensures { IfOk result (λ ending. ending_data ending ≡ ends_with (work_data work) collected.now.book.entries collected.now.refused) }
 {
     let warnings = warnings(alloc, &work, collected)?;
@@ -120,13 +120,13 @@ pub(crate) fn end_of<'b>(
 }
 
 /// Prepares what a call gives of the chosen source files of `store`.
-fn given_for<'b>(
+fn given_for<'b, T: Table<Global>>(
     alloc: Global,
     work: Work<'_>,
-    store: &'b Store,
+    store: &'b T,
     warnings: Bytes,
-) -> Result<Given<'b>, Memory>
-    ensures { IfOk result (λ given. given_data given ≡ given_of warnings (work_data work) store.now.sections) }
+) -> Result<Given<'b, T>, Memory>
+    ensures { IfOk result (λ given. given_data given ≡ given_of warnings (work_data work) (T.shown store.now).sections) }
 {
     let Work {
         choice,
@@ -147,14 +147,14 @@ fn given_for<'b>(
 }
 
 /// The summary or the list of the chosen source files.
-fn overview_of(
+fn overview_of<T: Table<Global>>(
     alloc: Global,
     overview: Overview,
     form: TotalsForm,
     choice: &Choice,
-    store: &Store,
+    store: &T,
 ) -> Result<Bytes, Memory>
-    ensures { IfOk result (λ text. text ≡ overview_text overview form (choice_data choice.now) store.now.sections) }
+    ensures { IfOk result (λ text. text ≡ overview_text overview form (choice_data choice.now) (T.shown store.now).sections) }
 {
     match (overview, form) {
         (Overview::Summary, TotalsForm::Words) => {
@@ -167,10 +167,10 @@ fn overview_of(
 }
 
 /// The warnings of a call: about files, in their order, and about patterns.
-fn warnings(
+fn warnings<T: Table<Global>>(
     alloc: Global,
     work: &Work<'_>,
-    collected: &CollectedBook<Note>,
+    collected: &CollectedBook<T, Note>,
 ) -> Result<Bytes, Memory>
     ensures { IfOk result (λ lines. lines ≡ warnings_of (work_data work.now) collected.now.book.entries collected.now.refused) }
 {
@@ -182,16 +182,16 @@ fn warnings(
         &mut lines,
     )?;
     if let Strictness::Lenient = work.strictness {
-        put_judged(b"warning: ", &work.choice, collected, &mut lines)?;
+        put_judged(alloc, b"warning: ", &work.choice, collected, &mut lines)?;
     }
     Ok(lines)
 }
 
 /// Why a call fails: for files, in their order, for clashes, for the number of files, and for patterns.
-fn failures(
+fn failures<T: Table<Global>>(
     alloc: Global,
     work: &Work<'_>,
-    collected: &CollectedBook<Note>,
+    collected: &CollectedBook<T, Note>,
 ) -> Result<Bytes, Memory>
     ensures { IfOk result (λ lines. lines ≡ failures_of (work_data work.now) collected.now.book.entries collected.now.refused) }
 {
@@ -201,7 +201,7 @@ fn failures(
     put_clashes(collected.book.kept(), &mut lines)?;
     put_unexpected(work.expected, notes, &mut lines)?;
     if let Strictness::Strict = work.strictness {
-        put_judged(b"", &work.choice, collected, &mut lines)?;
+        put_judged(alloc, b"", &work.choice, collected, &mut lines)?;
     }
     Ok(lines)
 }
@@ -363,10 +363,11 @@ fn count_merged(notes: &[RefusedInput<Note>]) -> u64
 }
 
 /// Appends what is doubtful of the patterns, if the whole of all files was added up. `front` comes before the words of each line.
-fn put_judged(
+fn put_judged<T: Table<Global>>(
+    alloc: Global,
     front: &[u8],
     choice: &Choice,
-    collected: &CollectedBook<Note>,
+    collected: &CollectedBook<T, Note>,
     lines: &mut Bytes,
 ) -> Result<(), Memory>
     ensures { OnOk result (lines.new ≡ lines.old ++ judged_by front.now (choice_data choice.now) collected.now.book.entries collected.now.refused) }
@@ -374,11 +375,12 @@ fn put_judged(
     if !is_whole(collected) {
         return Ok(());
     }
-    put_patterns(front, choice, collected.book.store(), lines)
+    let files = collected.book.store().files(alloc)?;
+    put_patterns(front, choice, files.as_slice(), lines)
 }
 
 /// Whether each file was read, and all of it was added up.
-fn is_whole(collected: &CollectedBook<Note>) -> bool
+fn is_whole<T: Table<Global>>(collected: &CollectedBook<T, Note>) -> bool
     ensures { result ≡ is_whole_call collected.now.book.entries collected.now.refused }
 {
     are_merged(collected.refused.get()) && have_no_clash(collected.book.kept())
@@ -422,37 +424,37 @@ fn is_clash(answer: &Answer) -> bool
     }
 }
 
-/// Appends what is doubtful of the patterns of `choice`.
+/// Appends what is doubtful of the patterns of `choice`. `files` are the source files of all tracefiles.
 fn put_patterns(
     front: &[u8],
     choice: &Choice,
-    store: &Store,
+    files: &[FileTotals<'_>],
     lines: &mut Bytes,
 ) -> Result<(), Memory>
-    ensures { OnOk result (lines.new ≡ lines.old ++ pattern_lines front.now (choice_data choice.now) store.now.sections) }
+    ensures { OnOk result (lines.new ≡ lines.old ++ pattern_lines front.now (choice_data choice.now) (map file_totals_data files.now)) }
 {
     if let Choice::Filter { includes, excludes } = choice {
-        put_all_unmatched(front, CallOption::Include, includes, store, lines)?;
-        put_all_unmatched(front, CallOption::Exclude, excludes, store, lines)?;
+        put_all_unmatched(front, CallOption::Include, includes, files, lines)?;
+        put_all_unmatched(front, CallOption::Exclude, excludes, files, lines)?;
     }
-    if takes_a_file(choice, store) {
+    if takes_a_file(choice, files) {
         return Ok(());
     }
     put_none_left(front, lines)
 }
 
-/// Appends a line about each of the `patterns` of `option` that matches no source file.
+/// Appends a line about each of the `patterns` of `option` that matches none of the source `files`.
 fn put_all_unmatched(
     front: &[u8],
     option: CallOption,
     patterns: &Patterns,
-    store: &Store,
+    files: &[FileTotals<'_>],
     lines: &mut Bytes,
 ) -> Result<(), Memory>
-    ensures { OnOk result (lines.new ≡ lines.old ++ unmatched front.now option store.now.sections patterns.now) }
+    ensures { OnOk result (lines.new ≡ lines.old ++ unmatched front.now option (map file_totals_data files.now) patterns.now) }
 {
     for pattern in patterns.get() {
-        if !matches_a_file(pattern.get(), store) {
+        if !matches_a_file(pattern.get(), files) {
             put_unmatched(front, option, pattern.get(), lines)?;
         }
     }

@@ -7,7 +7,15 @@
 //! A sketch, which no test runs: a call that merges files into `all.info`.
 //!
 //! ```text
-//! fn combine_into<R: Threads + Wait + Sync, F: Folder<File: Send> + Sync, P: OutputFolder, I: Source, O: Sink, E: Sink>(
+//! fn combine_into<
+//!     R: Threads + Wait + Sync,
+//!     F: Folder<File: Send> + Sync,
+//!     P: OutputFolder,
+//!     I: Source,
+//!     O: Sink,
+//!     E: Sink,
+//!     T: Table<Global, Plan: Send, Renaming: Send> + Send,
+//! >(
 //!     rt: &R,
 //!     folder: &F,
 //!     alloc: Global,
@@ -16,7 +24,8 @@
 //! ) -> u8
 //!     requires { CanCall world.old }
 //! {
-//!     combine(rt, folder, alloc, options, Strictness::Lenient, Some("all.info"), world)
+//!     let file = Some("all.info");
+//!     combine::<R, F, P, I, O, E, T>(rt, folder, alloc, options, Strictness::Lenient, file, world)
 //! }
 //! ```
 #![tactic(auto)]
@@ -48,9 +57,9 @@ use crate::report::report;
 use crate::tracefile::tracefiles;
 use crate::work::{Work, work_of};
 use covcommand::{CombineOptions, Strictness};
-use covnamed::collect_into_book;
+use covreport::Table;
 use covstream::{Sink, Source};
-use covworkers::{IntoBookFault, NoGate};
+use covworkers::{IntoBookFault, NoGate, collect_into_book};
 use covworld::{Folder, OutputFolder, World};
 use std::alloc::Global;
 use std::sync::Wait;
@@ -76,6 +85,7 @@ pub fn combine<
     I: Source,
     O: Sink,
     E: Sink,
+    T: Table<Global, Plan: Send, Renaming: Send> + Send,
 >(
     rt: &R,
     folder: &F,
@@ -91,14 +101,18 @@ pub fn combine<
     match work_of(alloc, options, strictness, file) {
         Ok(work) => {
             let jobs = jobs_for(rt, options.jobs, work.files.len());
-            do_work(rt, folder, alloc, work, jobs, file, world)
+            do_work::<R, F, P, I, O, E, T>(rt, folder, alloc, work, jobs, file, world)
         }
-        Err(fault) => report(alloc, early_end(alloc, options, fault), file, world),
+        Err(fault) => report::<P, I, O, E, T>(alloc, early_end(alloc, options, fault), file, world),
     }
 }
 
 /// The ending of a call whose work can't begin.
-fn early_end<'b>(alloc: Global, options: &CombineOptions, fault: WorkFault<'_>) -> Ending<'b>
+fn early_end<'b, T: Table<Global>>(
+    alloc: Global,
+    options: &CombineOptions,
+    fault: WorkFault<'_>,
+) -> Ending<'b, T>
     ensures { (file : Option (List ℕ)) → IsWorkFault options.now file fault → StopsEarly options.now file (ending_data result) }
 {
     let WorkFault::Call(fault) = fault else {
@@ -118,6 +132,7 @@ fn do_work<
     I: Source,
     O: Sink,
     E: Sink,
+    T: Table<Global, Plan: Send, Renaming: Send> + Send,
 >(
     rt: &R,
     folder: &F,
@@ -133,15 +148,15 @@ fn do_work<
         × IsReported (option_map (λ name. name.now) file.entry) ending result world.old world.new }
 {
     let Ok(inputs) = tracefiles(folder, alloc, work.strictness, work.files) else {
-        return report(alloc, no_memory(), file, world);
+        return report::<P, I, O, E, T>(alloc, no_memory(), file, world);
     };
     match collect_into_book(rt, alloc, inputs, jobs, &NoGate) {
-        Ok(collected) => match end_of(alloc, work, &collected) {
+        Ok(collected) => match end_of::<T>(alloc, work, &collected) {
             Ok(ending) => report(alloc, ending, file, world),
-            Err(_) => report(alloc, no_memory(), file, world),
+            Err(_) => report::<P, I, O, E, T>(alloc, no_memory(), file, world),
         },
         Err(IntoBookFault::Collect(fault)) => {
-            report(alloc, end_for_collecting(fault), file, world)
+            report::<P, I, O, E, T>(alloc, end_for_collecting(fault), file, world)
         }
         // A file that can't be read has a note.
         Err(IntoBookFault::Unread { .. }) => unreachable!(),

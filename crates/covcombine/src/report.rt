@@ -14,6 +14,7 @@ ghost use Rattle.covcombine.specs.View.{ending_data, given_data};
 use crate::ending::{Ending, Given};
 use crate::messages::{cut, put_cut, put_unwritten};
 use covdata::{Bytes, Memory};
+use covreport::Table;
 use covsession::{SessionFault, line_of};
 use covstream::{Sink, Source};
 use covworld::{OutputFault, OutputFolder, ReadyText, Sinks, World, write_file};
@@ -21,9 +22,9 @@ use std::alloc::Global;
 
 /// Reports how a call ended, and returns the exit status. The tracefile goes to the output, or into the file that `file` names: then
 /// the output gets the overview, after the file is finished. The error stream gets its lines last.
-pub(crate) fn report<P: OutputFolder, I: Source, O: Sink, E: Sink>(
+pub(crate) fn report<P: OutputFolder, I: Source, O: Sink, E: Sink, T: Table<Global>>(
     alloc: Global,
-    ending: Ending<'_>,
+    ending: Ending<'_, T>,
     file: Option<&str>,
     world: &mut World<P, I, O, E>,
 ) -> u8
@@ -43,7 +44,10 @@ pub(crate) fn report<P: OutputFolder, I: Source, O: Sink, E: Sink>(
 }
 
 /// Prints the tracefile. Returns the exit status.
-fn print_tracefile<O: Sink, E: Sink>(given: Given<'_>, sinks: &mut Sinks<O, E>) -> u8
+fn print_tracefile<O: Sink, E: Sink, T: Table<Global>>(
+    given: Given<'_, T>,
+    sinks: &mut Sinks<O, E>,
+) -> u8
     requires { CanWrite sinks.old }
     ensures { IsPrinted (cut_line None) (given_data given.entry).tracefile (given_data given.entry).warnings (given_data given.entry).missed result sinks.old sinks.new }
 {
@@ -57,10 +61,10 @@ fn print_tracefile<O: Sink, E: Sink>(given: Given<'_>, sinks: &mut Sinks<O, E>) 
 }
 
 /// Writes the tracefile into the file called `name`, and prints the overview. Returns the exit status.
-fn write_tracefile<P: OutputFolder, I: Source, O: Sink, E: Sink>(
+fn write_tracefile<P: OutputFolder, I: Source, O: Sink, E: Sink, T: Table<Global>>(
     alloc: Global,
     name: &str,
-    given: Given<'_>,
+    given: Given<'_, T>,
     world: &mut World<P, I, O, E>,
 ) -> u8
     requires { CanCall world.old }
@@ -121,8 +125,8 @@ impl FileLines {
 
 /// Prints `text`, and then `warnings` and `missed` to the error stream. Returns the exit status. `cut` is the last line if the text
 /// can't be printed.
-fn print<O: Sink, E: Sink>(
-    text: ReadyText<'_>,
+fn print<O: Sink, E: Sink, T: Table<Global>>(
+    text: ReadyText<'_, T>,
     warnings: &[u8],
     missed: &[u8],
     cut: &[u8],
