@@ -101,10 +101,12 @@ fn run_command<
         Ok(Task::Check { options, files }) => {
             check_files(rt, folder, alloc, &options, files.get(), &mut world.sinks)
         }
-        Ok(Task::Combine {
-            options,
-            strictness,
-        }) => combine::<R, F, P, I, O, E, T>(
+        Ok(
+            Task::Combine {
+                options,
+                strictness,
+            },
+        ) => combine::<R, F, P, I, O, E, T>(
             rt,
             folder,
             alloc,
