@@ -69,7 +69,8 @@ IsPrinted cut text warnings missed status old new =
 -- the file couldn't be written. No file is finished, nothing is printed, and the last line says so
 abbrev pub IsUnfiled : (name warnings : List ℕ) → (status : ℕ) → WorldData → WorldData → Type 0
 IsUnfiled name warnings status old new =
-    (status ≡ 1) × (new.files.finished ≡ old.files.finished) × (new.files.begun ≡ old.files.begun) × (new.files.failed ≡ suc old.files.failed)
+    (status ≡ 1) × (new.files.finished ≡ old.files.finished) × (new.files.names ≡ old.files.names) × (new.files.begun ≡ old.files.begun)
+    × (new.files.failed ≡ suc old.files.failed)
     × Withholds old.sinks new.sinks × Complains (warnings ++ unwritten_line name) old.sinks new.sinks
 
 -- how an ending is reported. `file`: the name of the file that the call names, unless that is standard output. The file is finished with
