@@ -9,21 +9,12 @@ use crate::stranger::Stranger;
 use covcommand::Strictness;
 use covdata::{Bytes, LineFault, Memory, ReadFault};
 use covlist::put_shown_name;
-use itoa::Buffer;
-
-/// Appends a number in decimal.
-fn put_number(number: u64, lines: &mut Bytes) -> Result<(), Memory>
-    ensures { OnOk result (lines.new ≡ lines.old ++ decimal number) }
-{
-    let mut digits = Buffer::new();
-    lines.append(digits.format(number).as_bytes())
-}
 
 /// Appends a number and a space, and then `one` if the number is 1, otherwise `many`.
 fn put_counted(number: u64, one: &[u8], many: &[u8], lines: &mut Bytes) -> Result<(), Memory>
     ensures { OnOk result (lines.new ≡ lines.old ++ counted number one.now many.now) }
 {
-    put_number(number, lines)?;
+    lines.append_number(number)?;
     lines.append(b" ")?;
     lines.append(if number == 1 { one } else { many })
 }
@@ -51,7 +42,7 @@ fn put_place(name: &[u8], line: u64, lines: &mut Bytes) -> Result<(), Memory>
 {
     put_shown_name(name, lines)?;
     lines.append(b":")?;
-    put_number(line, lines)?;
+    lines.append_number(line)?;
     lines.append(b": ")
 }
 
@@ -297,7 +288,7 @@ pub(crate) fn put_expected(expected: u64, read: u64, lines: &mut Bytes) -> Resul
     lines.append(b"expected ")?;
     put_counted(expected, b"file", b"files", lines)?;
     lines.append(b", but read ")?;
-    put_number(read, lines)?;
+    lines.append_number(read)?;
     lines.append(b"\n")
 }
 
