@@ -52,6 +52,5 @@ mod text_fault;
 mod work;
 
 pub use argument_fault::ArgumentFault;
-pub use covreport::Noted;
 pub use covworld::{Folder, OutputFolder, Sinks, World};
 pub use program::{refuse, run};

@@ -45,6 +45,7 @@ mod unfinished_file;
 mod world;
 mod written_file;
 
+pub use covreport::Noted;
 pub use files::file_text;
 pub use folder::{Folder, FromFiles, Opened};
 pub use output_folder::{IntoFiles, OutputFault, OutputFolder};

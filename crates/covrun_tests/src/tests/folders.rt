@@ -5,9 +5,9 @@ ghost use Rattle.std.specs.Prelude.{◌≡◌, ◌≢◌, None, Some};
 
 use super::outputs::NoFiles;
 use super::{Told, check_text, kept_sinks, run, words_of};
-use covrun::{Folder, Noted, World};
+use covrun::{Folder, World};
 use covstream::{Failed, FromRead, Source};
-use covworld::Opened;
+use covworld::{Noted, Opened};
 use std::process::Abort;
 use std::sync::Wait;
 use std::test::*;
