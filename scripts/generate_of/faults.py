@@ -17,8 +17,12 @@ def words_of(comment):
 
 
 def words_said(texts):
-    """The words that functions of these sources have for each variant of an enum."""
-    return {(enum, variant): words for text in texts for enum, variant, words in SAID.findall(text)}
+    """The words that functions of these sources have for each variant of an enum. The first ones count: covcombine, a later crate, has its own."""
+    said = {}
+    for text in texts:
+        for enum, variant, words in SAID.findall(text):
+            said.setdefault((enum, variant), words)
+    return said
 
 
 class Variant:
