@@ -4,6 +4,8 @@
 //! comes, and ends with a `Note` of what came of the file. An `Ending` is made of the book and the notes (`ending`), and is reported
 //! on the streams and in the output file (`report`). `messages` has all lines of the error stream.
 //!
+//! No function names a store: all are generic over covreport's `Table`.
+//!
 //! A sketch, which no test runs: a call that merges files into `all.info`.
 //!
 //! ```text
