@@ -1,14 +1,16 @@
 -- Which ending a call has, from the results of its steps.
-use Rattle.std.proofs.Common.{◌≡◌, inl, inr, ℕ, List, [], ◌∷◌, ◌++◌, Option, Some, None, refl, sym, ap, subst, ◌∙◌}
+use Rattle.std.proofs.Common.{◌≡◌, ◌==◌, inl, inr, ℕ, Bool, true, false, true≢false, List, [], ◌∷◌, ◌++◌, length, Option, Some, None, refl, sym, ap, subst, ◌∙◌, arith}
+use Rattle.std.proofs.lemmas.Bool.{eqb-true}
 use Rattle.covbook.specs.Op.{EntryData}
-use Rattle.covtable.specs.Content.{SectionData}
+use Rattle.covbook.specs.Step.{ops_in, table_of}
+use Rattle.covtable.specs.Content.{SectionData, content_at}
 use Rattle.covworkers.specs.Late.{FillHistory, IsCollectedSoFar, MayCome}
 use Rattle.covworkers.specs.Start.{AreJobs}
 use Rattle.covworkers.specs.declared.collect_fault.CollectFault.{CollectFault}
 use Rattle.covworkers.specs.declared.collect_fault.CollectFault.TheVariants as collects
 use Rattle.covworkers.specs.declared.refused.RefusedInput.{RefusedInput}
 use Rattle.covworld.specs.Folder.{FolderData}
-use Rattle.covcombine.specs.Combine.{EndingData, Fails, end_of, fails_for, given}
+use Rattle.covcombine.specs.Combine.{EndingData, Fails, Gives, GivenData, end_of, failure_status, failures, fails_for, given, warnings}
 use Rattle.covcombine.specs.Combined.{Ends, of_call_fault, of_collecting}
 use Rattle.covcombine.specs.Messages.{call_fault_line}
 use Rattle.covcombine.specs.Notes.{IsOfFile}
@@ -17,18 +19,44 @@ use Rattle.covcombine.specs.declared.call_fault.CallFault.{CallFault}
 use Rattle.covcombine.specs.declared.call_fault.CallFault.TheVariants.{ManyPatterns, LongPattern, NoRate, NoRoom, NoName, Twice}
 use Rattle.covcombine.specs.declared.note.Note.{Note}
 
+abbrev parts : (warned tracefile overview missed : List ℕ) → GivenData
+parts warned tracefile overview missed = record { warnings = warned; tracefile = tracefile; overview = overview; missed = missed }
+
 -- there are failures
-pub fails_given : (failures warnings : List ℕ) (status : ℕ) (otherwise : EndingData) → (failures ≡ [] → ⊥) → fails_for failures warnings status otherwise ≡ Fails status (warnings ++ failures)
+fails_given : (failures warnings : List ℕ) (status : ℕ) (otherwise : EndingData) → (failures ≡ [] → ⊥) → fails_for failures warnings status otherwise ≡ Fails status (warnings ++ failures)
 fails_given [] warnings status otherwise some = absurd (some refl)
 fails_given (b ∷ bs) warnings status otherwise some = refl
 
--- there is none
-pub none_fails : (failures warnings : List ℕ) (status : ℕ) (otherwise : EndingData) → failures ≡ [] → fails_for failures warnings status otherwise ≡ otherwise
-none_fails failures warnings status otherwise none = ap (λ (f : List ℕ). fails_for f warnings status otherwise) none
+module _ (work : CombineData) (entries : List EntryData) (notes : List (RefusedInput Note)) (failed warned : List ℕ) (told : failed ≡ failures work entries notes) (same : warned ≡ warnings work entries notes) where
+  pub fails_so : (status : ℕ) (lines : List ℕ) → (failed ≡ [] → ⊥) → status ≡ failure_status entries notes → lines ≡ warned ++ failed → Fails status lines ≡ end_of work entries notes
+  fails_so status lines some worst are =
+      ap (λ (n : ℕ). Fails n lines) worst
+      ∙ ap (λ (l : List ℕ). Fails (failure_status entries notes) l)
+      (are ∙ ap (λ (w : List ℕ). w ++ failed) same ∙ ap (λ (f : List ℕ). warnings work entries notes ++ f) told)
+      ∙ sym (fails_given (failures work entries notes) (warnings work entries notes) (failure_status entries notes)
+      (Gives (given (warnings work entries notes) work (content_at (table_of (ops_in entries))))) (λ none. some (told ∙ none)))
 
--- the warnings and the table are those of the definition
-pub given_same : (warnings told : List ℕ) (work : CombineData) (sections content : List SectionData) → warnings ≡ told → sections ≡ content → given warnings work sections ≡ given told work content
-given_same warnings told work sections content same held = ap (λ (w : List ℕ). given w work sections) same ∙ ap (λ (s : List SectionData). given told work s) held
+  -- there are none, and the table is that of the history
+  pub gives_so : (sections : List SectionData) (what : GivenData) → failed ≡ [] → sections ≡ content_at (table_of (ops_in entries)) → what ≡ given warned work sections → Gives what ≡ end_of work entries notes
+  gives_so sections what none held is =
+      ap (λ (g : GivenData). Gives g) (is ∙ ap (λ (w : List ℕ). given w work sections) same ∙ ap (λ (s : List SectionData). given (warnings work entries notes) work s) held)
+      ∙ sym (ap (λ (f : List ℕ). fails_for f (warnings work entries notes) (failure_status entries notes)
+      (Gives (given (warnings work entries notes) work (content_at (table_of (ops_in entries)))))) (sym told ∙ none))
+
+-- what a call gives, part by part
+pub given_so : (warned tracefile overview missed shown seen short : List ℕ) → tracefile ≡ shown → overview ≡ seen → missed ≡ short
+    → parts warned tracefile overview missed ≡ parts warned shown seen short
+given_so warned tracefile overview missed shown seen short same_tracefile same_overview same_missed =
+    ap (λ (t : List ℕ). parts warned t overview missed) same_tracefile ∙ ap (λ (o : List ℕ). parts warned shown o missed) same_overview
+    ∙ ap (λ (m : List ℕ). parts warned shown seen m) same_missed
+
+pub no_lines : (lines : List ℕ) → (length lines == 0) ≡ true → lines ≡ []
+no_lines [] is = refl
+no_lines (b ∷ bs) is = let none : length (b ∷ bs) ≡ 0 = eqb-true (length (b ∷ bs)) 0 is in absurd (omega (arith, none))
+
+pub some_lines : (lines : List ℕ) → (length lines == 0) ≡ false → lines ≡ [] → ⊥
+some_lines [] is none = true≢false is
+some_lines (b ∷ bs) is none = omega (arith, ap (λ (l : List ℕ). length l) none)
 
 -- ---- a call that isn't begun
 

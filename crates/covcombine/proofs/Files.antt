@@ -8,7 +8,9 @@ use Rattle.covbook.specs.Step.{max_entries, next_entry}
 use Rattle.covbook.specs.Texts.{IsText}
 use Rattle.covcommand.specs.declared.asked.Strictness.{Strictness}
 use Rattle.covworkers.specs.Collect.{AreOutcomes, IsCollectedWith, OutcomeData, all_places, submissions_of}
-use Rattle.covworkers.specs.Late.{FillHistory, IsCollectedSoFar, IsFirstUnread, MayCome, MayComeAtAll}
+use Rattle.covworkers.specs.Late.{FillHistory, IsCollectedSoFar, IsFirstUnread, IsIntoBookFault, MayCome, MayComeAtAll}
+use Rattle.covworkers.specs.declared.book_fault.IntoBookFault.{IntoBookFault}
+use Rattle.covworkers.specs.declared.book_fault.IntoBookFault.TheVariants as into_book
 use Rattle.covworkers.specs.declared.collect_fault.CollectFault.{CollectFault}
 use Rattle.covworkers.specs.declared.collect_fault.CollectFault.TheVariants as collects
 use Rattle.covworkers.specs.declared.refused.RefusedInput.{RefusedInput}
@@ -32,6 +34,18 @@ AreOwn view at strictness inputs = AllByRecursion (λ one. (view.own one ≡ at)
 
 abbrev pub GivesIn : {X Folder S : Type 0} → InputView X Folder S → (of : Folder → FolderData) → (left : S → Option (List ℕ)) → (failed_reads : S → ℕ) → X → OutcomeData Note → Type 0
 GivesIn view of left failed_reads one = MayGiveFrom left failed_reads (of (view.own one)) (view.strictness one) (view.name one) (view.stage one)
+
+at_all : (Fill : Type 0) (fault : CollectFault) → MayCome Fill fault → MayComeAtAll fault
+at_all Fill collects.BadJobs may = tt
+at_all Fill collects.Full may = tt
+at_all Fill collects.Memory may = tt
+at_all Fill (collects.Gather fault) may = absurd may
+at_all Fill collects.NotLast may = absurd may
+
+no_first : {X : Type 0} (MayGive : X → OutcomeData Note → Type 0) (inputs : List X) (index : ℕ) → IsFirstUnread MayGive (λ one. ⊥) inputs index → ⊥
+no_first MayGive [] index (fails, read) = fails
+no_first MayGive (one ∷ inputs) zero (fails, read) = fails
+no_first MayGive (one ∷ inputs) (suc index) (fails, (first, read)) = no_first MayGive inputs index (fails, read)
 
 module _ {X Folder S : Type 0} (view : InputView X Folder S) (at : Folder) (strictness : Strictness) (of : Folder → FolderData) (left : S → Option (List ℕ)) (failed_reads : S → ℕ) where
   -- what an input gives that isn't opened is what comes of its file
@@ -72,24 +86,27 @@ module _ {X Folder S : Type 0} (view : InputView X Folder S) (at : Folder) (stri
       )
 
   -- a fault of collecting the inputs is one of collecting the files
-  pub may_come : (inputs : List X) (names : List (List ℕ)) (fault : CollectFault) → map view.name inputs ≡ names → AreOwn view at strictness inputs
+  of_inputs : (inputs : List X) (names : List (List ℕ)) (fault : CollectFault) → map view.name inputs ≡ names → AreOwn view at strictness inputs
       → MayCome (FillHistory (GivesIn view of left failed_reads) inputs) fault → MayCome (FillHistory (IsOfFile (of at) strictness) names) fault
-  may_come inputs names collects.BadJobs named own may = tt
-  may_come inputs names collects.Full named own may = filled inputs names named own may
-  may_come inputs names collects.Memory named own may = tt
-  may_come inputs names (collects.Gather fault) named own may = absurd may
-  may_come inputs names collects.NotLast named own may = absurd may
+  of_inputs inputs names collects.BadJobs named own may = tt
+  of_inputs inputs names collects.Full named own may = filled inputs names named own may
+  of_inputs inputs names collects.Memory named own may = tt
+  of_inputs inputs names (collects.Gather fault) named own may = absurd may
+  of_inputs inputs names collects.NotLast named own may = absurd may
 
--- neither `Gather` nor `NotLast` comes, whatever fills the history
-pub at_all : (Fill : Type 0) (fault : CollectFault) → MayCome Fill fault → MayComeAtAll fault
-at_all Fill collects.BadJobs may = tt
-at_all Fill collects.Full may = tt
-at_all Fill collects.Memory may = tt
-at_all Fill (collects.Gather fault) may = absurd may
-at_all Fill collects.NotLast may = absurd may
+  module _ (inputs : List X) (found : IntoBookFault) (may : IsIntoBookFault (GivesIn view of left failed_reads) (λ one. ⊥) inputs found) where
+    told : (fault : CollectFault) → found ≡ into_book.Collect fault → MayCome (FillHistory (GivesIn view of left failed_reads) inputs) fault
+    told fault is = subst (λ (f : IntoBookFault). IsIntoBookFault (GivesIn view of left failed_reads) (λ one. ⊥) inputs f) is may
 
--- no input turns out to be unreadable
-pub none_unread : {X : Type 0} (MayGive : X → OutcomeData Note → Type 0) (inputs : List X) (index : ℕ) → IsFirstUnread MayGive (λ one. ⊥) inputs index → ⊥
-none_unread MayGive [] index (fails, read) = fails
-none_unread MayGive (one ∷ inputs) zero (fails, read) = fails
-none_unread MayGive (one ∷ inputs) (suc index) (fails, (first, read)) = none_unread MayGive inputs index (fails, read)
+    pub may_come : (names : List (List ℕ)) (fault : CollectFault) → found ≡ into_book.Collect fault → map view.name inputs ≡ names → AreOwn view at strictness inputs
+        → MayCome (FillHistory (IsOfFile (of at) strictness) names) fault
+    may_come names fault is named own = of_inputs inputs names fault named own (told fault is)
+
+    -- neither `Gather` nor `NotLast` comes, whatever fills the history
+    pub comes : (fault : CollectFault) → found ≡ into_book.Collect fault → MayComeAtAll fault
+    comes fault is = at_all (FillHistory (GivesIn view of left failed_reads) inputs) fault (told fault is)
+
+    -- no input turns out to be unreadable
+    pub none_unread : (index : ℕ) → found ≡ into_book.Unread index → ⊥
+    none_unread index is =
+        no_first (GivesIn view of left failed_reads) inputs index (subst (λ (f : IntoBookFault). IsIntoBookFault (GivesIn view of left failed_reads) (λ one. ⊥) inputs f) is may)

@@ -11,14 +11,16 @@ use Rattle.covlarge.specs.Large.{IsAll, IsReadAs, MayBeReadAs, max_pieces}
 use Rattle.covlarge.specs.State.{MayFailFrom, MayGive}
 use Rattle.covlarge.specs.StateData.{StateData}
 use Rattle.covlarge.specs.Summary.{SummaryData}
-use Rattle.covstream.specs.Blocks.{HasReadAtMost}
+use Rattle.covstream.specs.Blocks.{HasReadAtMost, IsReadFault}
+use Rattle.covstream.specs.declared.fault.BlockFault.{BlockFault}
+use Rattle.covstream.specs.declared.fault.BlockFault.TheVariants as blocks
 use Rattle.covstream.specs.declared.stream.Source.{Ghosts as SourceOf}
 use Rattle.covworkers.specs.Collect.{OutcomeData}
 use Rattle.covworld.proofs.Folders.{text_at_most}
 use Rattle.covworld.specs.Folder.{FolderData, folder_data}
 use Rattle.covworld.specs.declared.folder.Folder.{Ghosts as FolderOf}
 use Rattle.covcombine.specs.Notes.{AreUnknown, IsNoted, IsOfFile, IsOfTracefile, IsUnlessStrange, note_of}
-use Rattle.covcombine.specs.Steps.{EndsWith, IsOpenedFor, IsToldFor, MayGiveOpened, counts_with, no_counts, note_at, unknown_told}
+use Rattle.covcombine.specs.Steps.{EndsWith, IsOpenedFor, IsToldFor, MayGiveOpened, counts_with, no_counts, note_at, of_block, unknown_told}
 use Rattle.covcombine.specs.Strangers.{first_bytes, strange}
 use Rattle.covcombine.specs.declared.note.Counts.{Counts}
 use Rattle.covcombine.specs.declared.note.Note.{Note}
@@ -58,10 +60,16 @@ noted strictness first text read (Err fault) is_told is = refl
 module _ {F File : Type 0} (of : FolderOf F File) (file : SourceOf File) (folder : F) (strictness : Strictness) (name : List ℕ) (source after : File) (first : List ℕ)
     (may : of.may_open folder name source) (keeps : Keeps (of.holds folder name) (file.left source)) (none : file.failed_reads source ≡ 0) where
   -- a read of the first bytes failed
-  pub first_failed : (bytes : List ℕ) → Consumes (file.left source) (file.left after) bytes → file.failed_reads after ≡ suc (file.failed_reads source)
+  first_failed : (bytes : List ℕ) → Consumes (file.left source) (file.left after) bytes → file.failed_reads after ≡ suc (file.failed_reads source)
       → (folder_data of file folder).MayFail name
   first_failed bytes took failed =
       inr (record { opened = source; may_open = may; keeps = keeps; after = after; bytes = bytes; given = took; failed = omega (arith, failed) })
+
+  -- so the file ends with its note, unless memory ran out
+  pub first_ends : (fault : BlockFault) → IsReadFault (file.left source) (file.left after) (file.failed_reads source) (file.failed_reads after) fault
+      → EndsWith (IsOfFile (folder_data of file folder) strictness name) (of_block fault)
+  first_ends blocks.Unreadable (bytes, given, failed) = inl (refl, first_failed bytes given failed)
+  first_ends blocks.Memory same = tt
 
   module _ (took : HasReadAtMost first_bytes (file.left source) (file.left after) first) (few : length first ≤ first_bytes) where
     -- a later read may fail
@@ -85,18 +93,19 @@ module _ {F File : Type 0} (of : FolderOf F File) (file : SourceOf File) (folder
     )
 
     -- the file may be a tracefile, and is opened
-    pub opened_now : (opened : Opened File) → strange first ≡ None → opened.first ≡ first → opened.counts ≡ no_counts
+    pub opened_now : (begun : List ℕ) → begun ≡ first → (opened : Opened File) → strange first ≡ None → opened.first ≡ first → opened.counts ≡ no_counts
         → ((read : List SubmissionData) (end : Result (Option SummaryData) ReadFault) → MayGive file.left opened.rest read end
-        → MayBeReadAs Two (option_map (λ (more : List ℕ). first ++ more) (file.left after)) read end)
+        → MayBeReadAs Two (option_map (λ (more : List ℕ). begun ++ more) (file.left after)) read end)
         → ((read : List SubmissionData) (end : Result (Option SummaryData) ReadFault) → MayGive file.left opened.rest read end → IsToldFor strictness end)
         → opened.rest.source ≡ after → opened.rest.left ≡ max_pieces → file.failed_reads after ≡ 0
         → IsOpenedFor file.left file.failed_reads (folder_data of file folder) strictness name Unopened opened
-    opened_now opened not_strange same_first same_counts whole told same most still = record { gives = gives; most = most }
+    opened_now begun same_begun opened not_strange same_first same_counts whole told same most still = record { gives = gives; most = most }
       where
         of_tracefile : (outcome : OutcomeData Note) (read : List SubmissionData) (end : Result (Option SummaryData) ReadFault) → MayGive file.left opened.rest read end
             → outcome ≡ record { read = read; fault = Some (note_at first (counts_with no_counts read) end) } → IsOfTracefile strictness (of.holds folder name) first outcome
         of_tracefile outcome read end may_give is =
-            let (text, all, read_as) = whole read end may_give in (
+            let (text, all, read_as) =
+            subst (λ (f : List ℕ). MayBeReadAs Two (option_map (λ (more : List ℕ). f ++ more) (file.left after)) read end) same_begun (whole read end may_give) in (
               text,
               read,
               end,

@@ -1,5 +1,6 @@
 -- One piece of an open tracefile, and how collecting takes it.
 use Rattle.std.proofs.Common.{◌≡◌, inl, inr, ℕ, ◌<◌, List, [], ◌∷◌, Option, Some, None, Result, Ok, Err, refl, sym, ap, subst, ◌∙◌}
+use Rattle.std.specs.Prelude.{IfErr}
 use Rattle.covcommand.specs.declared.asked.Strictness.{Strictness}
 use Rattle.covdata.specs.Row.{SubmissionData}
 use Rattle.covdata.specs.declared.fault.ReadFault.{ReadFault}
@@ -17,7 +18,7 @@ use Rattle.covworkers.specs.declared.late_fault.LateFault.{LateFault}
 use Rattle.covworkers.specs.declared.part.Part.{Part}
 use Rattle.covworkers.specs.declared.part.Part.TheVariants as given_parts
 use Rattle.covworld.specs.Folder.{FolderData}
-use Rattle.covcombine.specs.Notes.{note_of}
+use Rattle.covcombine.specs.Notes.{IsOfFile, note_of}
 use Rattle.covcombine.specs.Steps.{EndsWith, IsLater, IsNextStage, IsOpenedFor, MayGiveFrom, MayGiveLater, MayGiveOpened, counts_with, most_parts, note_at, of_piece, of_stop, unknown_told}
 use Rattle.covcombine.specs.declared.note.Counts.{Counts}
 use Rattle.covcombine.specs.declared.note.Note.{Note}
@@ -30,9 +31,9 @@ use Rattle.covcombine.proofs.Counting.{counts_on}
 
 module _ {S : Type 0} (left : S → Option (List ℕ)) (failed_reads : S → ℕ) (opened : Opened S) where
   -- a piece, and the rest of the tracefile
-  pub more_stage : (submission : SubmissionData) (next : Opened S) → next.first ≡ opened.first → next.counts ≡ counts_with opened.counts (submission ∷ [])
+  more_gives : (submission : SubmissionData) (next : Opened S) → next.first ≡ opened.first → next.counts ≡ counts_with opened.counts (submission ∷ [])
       → IsNextPiece left failed_reads opened.rest (Ok (parts.More submission next.rest)) → IsNextStage left failed_reads opened submission (stages.Reading next)
-  more_stage submission next same_first same_counts (fewer, fails, gives) = record { later = tt; fewer = fewer; gives = go }
+  more_gives submission next same_first same_counts (fewer, fails, gives) = record { later = tt; fewer = fewer; gives = go }
     where
       go : (outcome : OutcomeData Note) → MayGiveOpened left failed_reads next.first next.counts next.rest outcome
           → MayGiveOpened left failed_reads opened.first opened.counts opened.rest (in_front submission outcome)
@@ -49,10 +50,16 @@ module _ {S : Type 0} (left : S → Option (List ℕ)) (failed_reads : S → ℕ
                 ∙ ap (λ (n : Note). record { read = submission ∷ read; fault = Some n }) (with_first ∙ with_counts ∙ with_all),
           )
 
+  pub more_stage : (submission given : SubmissionData) (next : Opened S) (piece : NextPiece S) → piece ≡ parts.More submission next.rest → given ≡ submission → next.first ≡ opened.first
+      → next.counts ≡ counts_with opened.counts (submission ∷ []) → IsNextPiece left failed_reads opened.rest (Ok piece) → IsNextStage left failed_reads opened given (stages.Reading next)
+  more_stage submission given next piece is same same_first same_counts may =
+      subst (λ (s : SubmissionData). IsNextStage left failed_reads opened s (stages.Reading next)) (sym same)
+      (more_gives submission next same_first same_counts (subst (λ (p : NextPiece S). IsNextPiece left failed_reads opened.rest (Ok p)) is may))
+
   -- the last piece, and the note
-  pub last_stage : (submission : SubmissionData) (told : Option SummaryData) (note : Note) → note ≡ note_of opened.first (counts_with opened.counts (submission ∷ [])) (unknown_told told)
+  last_gives : (submission : SubmissionData) (told : Option SummaryData) (note : Note) → note ≡ note_of opened.first (counts_with opened.counts (submission ∷ [])) (unknown_told told)
       → IsNextPiece left failed_reads opened.rest (Ok (parts.Last submission told)) → IsNextStage left failed_reads opened submission (stages.Ended note)
-  last_stage submission told note same (some, may_give) = record {
+  last_gives submission told note same (some, may_give) = record {
     later = tt;
     fewer = some;
     gives = λ outcome is. inr (
@@ -62,6 +69,13 @@ module _ {S : Type 0} (left : S → Option (List ℕ)) (failed_reads : S → ℕ
       ap (λ (o : OutcomeData Note). in_front submission o) is ∙ ap (λ (n : Note). record { read = submission ∷ []; fault = Some n }) same,
     );
   }
+
+  pub last_stage : (submission given : SubmissionData) (told : Option SummaryData) (note : Note) (piece : NextPiece S) → piece ≡ parts.Last submission told → given ≡ submission
+      → note ≡ note_of opened.first (counts_with opened.counts (submission ∷ [])) (unknown_told told)
+      → IsNextPiece left failed_reads opened.rest (Ok piece) → IsNextStage left failed_reads opened given (stages.Ended note)
+  last_stage submission given told note piece is same same_note may =
+      subst (λ (s : SubmissionData). IsNextStage left failed_reads opened s (stages.Ended note)) (sym same)
+      (last_gives submission told note same_note (subst (λ (p : NextPiece S). IsNextPiece left failed_reads opened.rest (Ok p)) is may))
 
   -- no piece
   pub no_stage : (fault : PieceFault) → IsNextPiece left failed_reads opened.rest (Err fault) → EndsWith (MayGiveOpened left failed_reads opened.first opened.counts opened.rest) (of_piece fault)
@@ -80,6 +94,13 @@ module _ {S : Type 0} (left : S → Option (List ℕ)) (failed_reads : S → ℕ
   -- a file that is open already
   pub opened_before : (opened : Opened S) → IsOpenedFor left failed_reads folder strictness name (stages.Reading opened) opened
   opened_before opened = record { gives = λ outcome may_give. may_give; most = refl }
+
+  -- a file that is opened now
+  pub opens_now : {A : Type 0} (result : Result A Stop) → IfErr result (EndsWith (IsOfFile folder strictness name))
+      → IfErr result (EndsWith (MayGiveFrom left failed_reads folder strictness name stages.Unopened))
+  opens_now (Ok opened) ends = tt
+  opens_now (Err (stops.Ended note)) ends = ends
+  opens_now (Err stops.Memory) ends = tt
 
   -- a file that is read to its end has only its note
   pub ended_before : (note : Note) → EndsWith (MayGiveFrom left failed_reads folder strictness name (stages.Ended note)) (stops.Ended note)

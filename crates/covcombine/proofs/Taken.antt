@@ -1,5 +1,6 @@
 -- Options are checked one after another: all of them do, or one of them doesn't.
-use Rattle.std.proofs.Common.{◌≡◌, ℕ, zero, suc, ◌<◌, ◌≤◌, List, [], ◌∷◌, ◌++◌, length, map, take, get_or, Option, Some, None, Result, Err, refl, sym, ap, subst, ◌∙◌, arith}
+use Rattle.std.proofs.Common.{◌≡◌, ◌==◌, ℕ, true, false, true≢false, zero, suc, ◌<◌, ◌≤◌, List, [], ◌∷◌, ◌++◌, length, map, take, get_or, Option, Some, None, Result, Err, refl, sym, ap, subst, ◌∙◌, arith}
+use Rattle.std.proofs.lemmas.Bool.{eqb-true}
 use Rattle.std.proofs.lemmas.List.{length-map, length-take-le}
 use Rattle.std.specs.List.{AllByRecursion}
 use Rattle.std.specs.Prelude.{Contains, IfSome}
@@ -125,6 +126,16 @@ name_refused options file (works.Call (NoRoom other)) none = absurd none
 name_refused options file (works.Call NoName) is = is
 name_refused options file (works.Call (Twice name)) twice = twice
 name_refused options file works.Memory none = tt
+
+-- ---- names
+
+pub no_names : {X : Type 0} (name : X → List ℕ) (words : List X) → (length words == 0) ≡ true → map name words ≡ []
+no_names name [] is = refl
+no_names name (word ∷ words) is = let none : length (word ∷ words) ≡ 0 = eqb-true (length (word ∷ words)) 0 is in absurd (omega (arith, none))
+
+pub names_there : {X : Type 0} (name : X → List ℕ) (words : List X) → (length words == 0) ≡ false → map name words ≡ [] → ⊥
+names_there name [] is none = true≢false is
+names_there name (word ∷ words) is none = omega (arith, ap (λ (ns : List (List ℕ)). length ns) none)
 
 -- ---- patterns
 

@@ -1,6 +1,6 @@
 -- Which names stand twice, found with the set of all earlier names.
-use Rattle.std.proofs.Common.{◌≡◌, ◌⊎◌, inl, inr, ⊎_elim, ℕ, zero, suc, ◌<◌, Bool, true, false, true≢false, List, [], ◌∷◌, ◌++◌, length, take, drop, get_or, refl, sym, ap, subst, ◌∙◌, arith}
-use Rattle.std.proofs.lemmas.List.{length-append}
+use Rattle.std.proofs.Common.{◌≡◌, ◌⊎◌, inl, inr, ⊎_elim, ℕ, zero, suc, ◌+◌, ◌<◌, Bool, true, false, true≢false, List, [], ◌∷◌, ◌++◌, length, map, take, drop, get_or, refl, sym, ap, subst, ◌∙◌, arith}
+use Rattle.std.proofs.lemmas.List.{get_or-map, length-append, length-map, map_push, take-map, take_more}
 use Rattle.std.proofs.lemmas.List.Folds.{list_any-append}
 use Rattle.std.proofs.lemmas.Map.Text.{is_eq-slice_cmp}
 use Rattle.std.proofs.lemmas.Map.Views.{Contains-from_any}
@@ -10,7 +10,7 @@ use Rattle.std.specs.BTreeSet.{insert_key}
 use Rattle.std.specs.Cmp.Lexicographic.{slice_cmp}
 use Rattle.std.specs.List.{list_any}
 use Rattle.std.specs.Ordering.{is_eq, match_ordering, nat_cmp}
-use Rattle.std.specs.Prelude.{◌||◌, Contains}
+use Rattle.std.specs.Prelude.{◌||◌, not, Contains}
 use Rattle.std.specs.Str.{bytes_eq}
 use Rattle.std.specs.declared.cmp.Ordering.{Ordering}
 use Rattle.std.specs.declared.cmp.Ordering.TheVariants.{Less, Equal, Greater}
@@ -117,3 +117,44 @@ is_absent names name had same is within = true≢false (sym (found names (In-fro
     found [] none = absurd none
     found (n ∷ ns) (inl is) = ap (λ (b : Bool). b || list_any (bytes_eq name) ns) ((bytes_eq-Decides name n).1 (sym is))
     found (n ∷ ns) (inr more) = or_right (bytes_eq name n) (list_any (bytes_eq name) ns) (found ns more)
+
+-- ---- the words of a call, as far as they were looked at
+
+module _ {X : Type 0} (text : X → List ℕ) (words : List X) (i : ℕ) (d : X) (within : i < length words) (name : List ℕ) (is : name ≡ text (get_or words i d)) where
+  -- the set had the name of this word before, so the name stands twice
+  pub twice_at : (had : Bool) → had ≡ list_any (bytes_eq name) (map text (take i words)) → had ≡ true → IsTwice (map text words) name
+  twice_at had same found =
+      let at : get_or (map text words) i name ≡ name = get_or-map text words i d name within ∙ sym is in
+      let earlier : Contains (take i (map text words)) name =
+      subst (λ (ns : List (List ℕ)). Contains ns name) (sym (take-map text i words)) (is_there (map text (take i words)) name had same found) in
+      subst (λ (n : List ℕ). IsTwice (map text words) n) at
+      (here (map text words) i name (omega (arith, within, length-map words text)) (subst (λ (n : List ℕ). Contains (take i (map text words)) n) (sym at) earlier))
+
+  one_more : map text (take (i + 1) words) ≡ map text (take i words) ++ name ∷ []
+  one_more =
+      ap (map text) (take_more words i d within) ∙ map_push text (take i words) (get_or words i d)
+      ∙ ap (λ (n : List ℕ). map text (take i words) ++ n ∷ []) (sym is)
+
+  -- no name stands twice up to this word either
+  pub none_on : (had : Bool) → had ≡ list_any (bytes_eq name) (map text (take i words)) → had ≡ false → ((n : List ℕ) → IsTwice (map text (take i words)) n → ⊥)
+      → (n : List ℕ) → IsTwice (map text (take (i + 1) words)) n → ⊥
+  none_on had same absent none n twice =
+      none_more (map text (take i words)) name none (is_absent (map text (take i words)) name had same absent) n (subst (λ (ns : List (List ℕ)). IsTwice ns n) one_more twice)
+
+  -- the set has the names up to this word
+  pub seen_on : {K : Type 0} (seen : K → List ℕ) (keys after : List K) (key : K) → seen key ≡ name → after ≡ insert_key (λ x y. slice_cmp nat_cmp (seen x) (seen y)) keys key
+      → (q : List ℕ) → has seen keys q ≡ list_any (bytes_eq q) (map text (take i words)) → has seen after q ≡ list_any (bytes_eq q) (map text (take (i + 1) words))
+  seen_on {K} seen keys after key key_is after_is q before =
+      ap (λ (ks : List K). has seen ks q) after_is
+      ∙ has_more seen keys key (map text (take i words)) q before
+      ∙ ap (λ (n : List ℕ). list_any (bytes_eq q) (map text (take i words) ++ n ∷ [])) key_is
+      ∙ ap (list_any (bytes_eq q)) (sym one_more)
+
+-- a key that isn't new was there
+pub was_there : (had is_new : Bool) → is_new ≡ not had → is_new ≡ false → had ≡ true
+was_there true is_new same is = refl
+was_there false is_new same is = absurd (true≢false (sym same ∙ is))
+
+pub was_new : (had is_new : Bool) → is_new ≡ not had → is_new ≡ true → had ≡ false
+was_new true is_new same is = absurd (true≢false (sym is ∙ same))
+was_new false is_new same is = refl

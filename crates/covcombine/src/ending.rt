@@ -135,13 +135,15 @@ fn given_for<'b, T: Table<Global>>(
         limits,
         ..
     } = work;
-    let overview = overview_of(alloc, overview, form, &choice, store)?;
+    let shown = overview_of(alloc, overview, form, &choice, store)?;
     let missed = shortfall_lines(alloc, &limits, &chosen_totals(store, &choice))?;
-    let tracefile = Printing::of_store(alloc, store, choice)?;
+    let merged = Printing::of_store(alloc, store, choice)?;
+    let tracefile = ReadyText::of(alloc, merged)?;
+    let overview = ReadyText::of(alloc, Printing::of_text(shown))?;
     Ok(Given {
         warnings,
-        tracefile: ReadyText::of(alloc, tracefile)?,
-        overview: ReadyText::of(alloc, Printing::of_text(overview))?,
+        tracefile,
+        overview,
         missed,
     })
 }

@@ -19,8 +19,9 @@ use crate::stop::Stop;
 use crate::stranger::{FIRST_BYTES, strange_of};
 use covbook::PackedRef;
 use covcommand::{LcovVersion, Strictness};
-use covdata::Bytes;
+use covdata::{Bytes, Memory};
 use covlarge::{Held, LargeTracefile, NextPiece};
+use covpacked::PackedSubmission;
 use covstream::{BlockFault, Source, read_at_most};
 use covworkers::Given;
 use covworld::Folder;
@@ -59,10 +60,11 @@ impl<S: Source + Drop> Opened<S> {
             counts,
             rest,
         } = self;
-        match rest.next_piece(alloc)? {
+        let piece = rest.next_piece(alloc)?;
+        match piece {
             NextPiece::More(submission, rest) => {
                 let counts = counts.and(&submission);
-                let given = Given::packed(PackedRef::of(alloc, submission)?);
+                let given = share(alloc, submission)?;
                 Ok((
                     given,
                     Stage::Reading(Opened {
@@ -75,11 +77,18 @@ impl<S: Source + Drop> Opened<S> {
             NextPiece::Last(submission, held) => {
                 let counts = counts.and(&submission);
                 let note = note_of(alloc, first.get(), counts, unknown_in(&held))?;
-                let given = Given::packed(PackedRef::of(alloc, submission)?);
+                let given = share(alloc, submission)?;
                 Ok((given, Stage::Ended(note)))
             }
         }
     }
+}
+
+/// Makes a chunk's submission shareable, as collecting takes submissions.
+fn share(alloc: Global, submission: PackedSubmission) -> Result<Given, Memory>
+    ensures { IfOk result (λ given. given ≡ submission) }
+{
+    Ok(Given::packed(PackedRef::of(alloc, submission)?))
 }
 
 /// The number of lines of unknown keys; 0 without a summary.
@@ -107,15 +116,17 @@ pub(crate) fn open_file<F: Folder>(
     };
     let mut source = file.source;
     let first = read_first(alloc, &mut source)?;
-    if let Some(kind) = strange_of(first.get()) {
-        return Err(Stop::Ended(Note::Strange(kind)));
+    match strange_of(first.get()) {
+        Some(kind) => Err(Stop::Ended(Note::Strange(kind))),
+        None => {
+            let begun = first.copy(alloc)?;
+            Ok(Opened {
+                first,
+                counts: Counts::none(),
+                rest: begin(alloc, strictness, begun, source),
+            })
+        }
     }
-    let rest = begin(alloc, strictness, first.copy(alloc)?, source);
-    Ok(Opened {
-        first,
-        counts: Counts::none(),
-        rest,
-    })
 }
 
 /// Reads the first bytes of `source`.
@@ -129,7 +140,8 @@ fn read_first<S: Source>(alloc: Global, source: &mut S) -> Result<Bytes, BlockFa
     ensures failed { IfErr result (IsReadFault (S.left source.old) (S.left source.new) (S.failed_reads source.old) (S.failed_reads source.new)) }
 {
     let mut block = [0; FIRST_BYTES];
-    read_at_most(Bytes::new(alloc), source, &mut block, FIRST_BYTES)
+    let first = read_at_most(Bytes::new(alloc), source, &mut block, FIRST_BYTES)?;
+    Ok(first)
 }
 
 /// Opens a tracefile of LCOV 1 or 2 whose first bytes, `first`, were read from `source`. Only a strict call collects a summary, which

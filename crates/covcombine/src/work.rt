@@ -115,10 +115,13 @@ fn limits_of<'a>(alloc: Global, words: &'a LimitWords) -> Result<Limits, WorkFau
     ensures good { IfOk result (λ _. (option : AnOption) → IfSome (limit_in option words.now) IsRate) }
     ensures fault { IfErr result (λ fault. (option : AnOption) × IsRateFault option (limit_in option words.now) fault) }
 {
+    let lines = rate_of(alloc, CallOption::FailUnderLines, &words.lines)?;
+    let functions = rate_of(alloc, CallOption::FailUnderFunctions, &words.functions)?;
+    let branches = rate_of(alloc, CallOption::FailUnderBranches, &words.branches)?;
     Ok(Limits {
-        lines: rate_of(alloc, CallOption::FailUnderLines, &words.lines)?,
-        functions: rate_of(alloc, CallOption::FailUnderFunctions, &words.functions)?,
-        branches: rate_of(alloc, CallOption::FailUnderBranches, &words.branches)?,
+        lines,
+        functions,
+        branches,
     })
 }
 
@@ -163,7 +166,8 @@ fn check_names<'a>(alloc: Global, names: &'a [String]) -> Result<(), WorkFault<'
     if names.is_empty() {
         return Err(WorkFault::Call(CallFault::NoName));
     }
-    match named_twice(alloc, names)? {
+    let twice = named_twice(alloc, names)?;
+    match twice {
         Some(name) => Err(WorkFault::Call(CallFault::Twice(name))),
         None => Ok(()),
     }
@@ -174,9 +178,11 @@ fn named_twice<'a>(alloc: Global, names: &'a [String]) -> Result<Option<&'a str>
     ensures { IfOk result (λ name. IsTwiceIfAny (map string_bytes names.now) (option_map (λ n. n.now) name)) }
 {
     let mut seen = BTreeSet::new(alloc);
-    for name in names {
-        if !seen.insert(name.as_str())? {
-            return Ok(Some(name.as_str()));
+    for word in names {
+        let name = word.as_str();
+        let is_new = seen.insert(name)?;
+        if !is_new {
+            return Ok(Some(name));
         }
     }
     Ok(None)

@@ -7,8 +7,8 @@ use Rattle.covcombine.proofs.Twice.{has}
 use Rattle.covcombine.proofs.work.named_twice.Given as goal
 
 -- none of the names so far stands twice, and the set has them all
-abbrev pub invariant-loop-name : goal.invariant-loop-name
-invariant-loop-name l = record {
-  none : (name : List ℕ) → IsTwice (map string_bytes (take l.name-index l.names)) name → ⊥;
-  seen : (name : List ℕ) → has (λ k. k.now) l.seen.keys name ≡ list_any (bytes_eq name) (map string_bytes (take l.name-index l.names));
+abbrev pub invariant-loop-word : goal.invariant-loop-word
+invariant-loop-word l = record {
+  none : (name : List ℕ) → IsTwice (map string_bytes (take l.word-index l.names)) name → ⊥;
+  seen : (name : List ℕ) → has (λ k. k.now) l.seen.keys name ≡ list_any (bytes_eq name) (map string_bytes (take l.word-index l.names));
 }

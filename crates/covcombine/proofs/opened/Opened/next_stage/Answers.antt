@@ -1,0 +1,22 @@
+use Rattle.std.proofs.Common.{◌≡◌, [], ◌∷◌, refl}
+use Rattle.std.proofs.lemmas.Result.{err_from_is_err_and}
+use Rattle.covcombine.specs.Notes.{note_of}
+use Rattle.covcombine.specs.Steps.{counts_with, unknown_told}
+use Rattle.covcombine.proofs.Stages.{last_stage, more_stage, no_stage}
+use Rattle.covcombine.proofs.opened.Opened.next_stage.Goals as goal
+
+pub returns-in_err-piece-clause-ended : goal.returns-in_err-piece-clause-ended
+returns-in_err-piece-clause-ended g c =
+    let told = err_from_is_err_and c.from_residual.result c.from_residual.ensures.1 in
+    rw (told.1, told.2) (no_stage g.S.Source.left g.S.Source.failed_reads c.args.self _ c.in_err-piece.ensures)
+
+pub returns-in_ok-given-in-More-clause-next : goal.returns-in_ok-given-in-More-clause-next
+returns-in_ok-given-in-More-clause-next g c =
+    more_stage g.S.Source.left g.S.Source.failed_reads c.args.self c.in-More.submission c.in_ok-given-in-More.given _ c.in_ok-piece.piece c.in-More.is
+    c.in_ok-given-in-More.ensures refl c.and-counts.ensures c.in_ok-piece.ensures
+
+pub returns-in_ok-given-in-Last-clause-next : goal.returns-in_ok-given-in-Last-clause-next
+returns-in_ok-given-in-Last-clause-next g c =
+    let same : c.in_ok-note-in-Last.note ≡ note_of c.args.self.first (counts_with c.args.self.counts (c.in-Last.submission ∷ [])) (unknown_told c.in-Last.held) = cc in
+    last_stage g.S.Source.left g.S.Source.failed_reads c.args.self c.in-Last.submission c.in_ok-given-in-Last.given c.in-Last.held c.in_ok-note-in-Last.note
+    c.in_ok-piece.piece c.in-Last.is c.in_ok-given-in-Last.ensures same c.in_ok-piece.ensures
