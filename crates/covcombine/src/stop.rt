@@ -15,15 +15,15 @@ pub(crate) enum Stop {
     Memory,
 }
 
-impl Stop {
+// Collecting takes a note as it takes the error of an input.
+impl From<Stop> for LateFault<Note> {
     ghost use Rattle.std.specs.Prelude.{◌≡◌};
     ghost use Rattle.covcombine.specs.Steps.{of_stop};
 
-    /// Turns the reason into what collecting takes: a note stands where an error would.
-    pub(crate) fn into_fault(self) -> LateFault<Note>
-        ensures { result ≡ of_stop self }
-    {
-        match self {
+    ghost from_gives = { λ stop fault. fault ≡ of_stop stop };
+
+    fn from(stop: Stop) -> LateFault<Note> {
+        match stop {
             Stop::Ended(note) => LateFault::Refused(note),
             Stop::Memory => LateFault::Memory,
         }

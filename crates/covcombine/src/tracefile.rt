@@ -40,22 +40,15 @@ impl<'a, F: Folder> LateInput<Global> for Tracefile<'a, F> {
             strictness,
             stage,
         } = self;
-        let opened = match opened_at(folder, alloc, name, strictness, stage) {
-            Ok(opened) => opened,
-            Err(stop) => return Err(stop.into_fault()),
+        let opened = opened_at(folder, alloc, name, strictness, stage)?;
+        let (given, stage) = opened.next_stage(alloc)?;
+        let rest = Tracefile {
+            folder,
+            name,
+            strictness,
+            stage,
         };
-        match opened.next_stage(alloc) {
-            Ok((given, stage)) => Ok(Part::More(
-                given,
-                Tracefile {
-                    folder,
-                    name,
-                    strictness,
-                    stage,
-                },
-            )),
-            Err(stop) => Err(stop.into_fault()),
-        }
+        Ok(Part::More(given, rest))
     }
 }
 
