@@ -20,6 +20,11 @@ returns-in-Some-clause-ended g c =
     strange_file g.F.Folder g.F.File.Source c.args.folder.now c.args.strictness c.args.name.now c.in-Ok.file.source c.read_first.new.source c.in_ok-first.first
     c.in-Ok.ensures.opened c.in-Ok.ensures.bytes c.in-Ok.ensures.failures c.in_ok-first.ensures.read c.in_ok-first.ensures.few c.in-Some.kind is
 
+pub returns-in_err-begun-in-None-clause-ended : goal.returns-in_err-begun-in-None-clause-ended
+returns-in_err-begun-in-None-clause-ended g c =
+    let told = err_from_is_err_and c.from_residual-in_err-begun-in-None.result c.from_residual-in_err-begun-in-None.ensures.1 in
+    rw (told.1, told.2) tt
+
 pub returns-in_ok-begun-in-None-clause-opened : goal.returns-in_ok-begun-in-None-clause-opened
 returns-in_ok-begun-in-None-clause-opened g c =
     let is : strange c.in_ok-first.first ≡ None = cc in

@@ -10,10 +10,25 @@ returns-in_err-piece-clause-ended g c =
     let told = err_from_is_err_and c.from_residual.result c.from_residual.ensures.1 in
     rw (told.1, told.2) (no_stage g.S.Source.left g.S.Source.failed_reads c.args.self _ c.in_err-piece.ensures)
 
+pub returns-in_err-given-in-More-clause-ended : goal.returns-in_err-given-in-More-clause-ended
+returns-in_err-given-in-More-clause-ended g c =
+    let told = err_from_is_err_and c.from_residual-in_err-given-in-More.result c.from_residual-in_err-given-in-More.ensures.1 in
+    rw (told.1, told.2) tt
+
 pub returns-in_ok-given-in-More-clause-next : goal.returns-in_ok-given-in-More-clause-next
 returns-in_ok-given-in-More-clause-next g c =
     more_stage g.S.Source.left g.S.Source.failed_reads c.args.self c.in-More.submission c.in_ok-given-in-More.given _ c.in_ok-piece.piece c.in-More.is
     c.in_ok-given-in-More.ensures refl c.and-counts.ensures c.in_ok-piece.ensures
+
+pub returns-in_err-note-in-Last-clause-ended : goal.returns-in_err-note-in-Last-clause-ended
+returns-in_err-note-in-Last-clause-ended g c =
+    let told = err_from_is_err_and c.from_residual-in_err-note-in-Last.result c.from_residual-in_err-note-in-Last.ensures.1 in
+    rw (told.1, told.2) tt
+
+pub returns-in_err-given-in-Last-clause-ended : goal.returns-in_err-given-in-Last-clause-ended
+returns-in_err-given-in-Last-clause-ended g c =
+    let told = err_from_is_err_and c.from_residual-in_err-given-in-Last.result c.from_residual-in_err-given-in-Last.ensures.1 in
+    rw (told.1, told.2) tt
 
 pub returns-in_ok-given-in-Last-clause-next : goal.returns-in_ok-given-in-Last-clause-next
 returns-in_ok-given-in-Last-clause-next g c =
