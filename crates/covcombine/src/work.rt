@@ -150,7 +150,8 @@ fn check_overview<'a>(options: &CombineOptions, file: Option<&str>) -> Result<()
     ensures fault { IfErr result (IsWorkFault options.now (option_map (λ name. name.now) file.entry)) }
 {
     match (file, options.overview, options.form) {
-        (Some(_), _, _) | (None, Overview::Summary, TotalsForm::Words) => Ok(()),
+        (Some(_), _, _) => Ok(()),
+        (None, Overview::Summary, TotalsForm::Words) => Ok(()),
         (None, Overview::List, _) => Err(WorkFault::Call(CallFault::NoRoom(CallOption::List))),
         (None, Overview::Summary, TotalsForm::Json) => {
             Err(WorkFault::Call(CallFault::NoRoom(CallOption::Json)))

@@ -10,5 +10,5 @@ returns-in_default g c = λ file is. inl c.no_memory.ensures
 pub returns-in-Ok : goal.returns-in-Ok
 returns-in-Ok g c = λ file is. inr (c.in-Call.fault, subst (λ (f : WorkFault). IsWorkFault c.args.options.now file f) c.in-Call.is is, c.in-Ok.ensures)
 
-pub returns : goal.returns
-returns g c = λ file is. inl c.no_memory-in-Err.ensures
+pub returns-in-Err : goal.returns-in-Err
+returns-in-Err g c = λ file is. inl c.no_memory-in-Err.ensures
