@@ -99,7 +99,7 @@ faultless options file taken rates room names (Twice name) twice = names.1 name.
 pub pattern_refused : (options : CombineOptions) (file : Option (List ℕ)) (option : CallOption) (fault : WorkFault)
     → IsPatternFault option (patterns_in option options.filter) fault → IsWorkFault options file fault
 pattern_refused options file option (works.Call (ManyPatterns same)) (is, many) = subst (λ (o : CallOption). max_patterns < length (patterns_in o options.filter)) (sym is) many
-pattern_refused options file option (works.Call (LongPattern same)) (is, (pattern, within, long)) =
+pattern_refused options file option (works.Call (LongPattern same)) (is, pattern, within, long) =
     (pattern, subst (λ (o : CallOption). Contains (patterns_in o options.filter) pattern) (sym is) within, long)
 pattern_refused options file option (works.Call (NoRate other word)) none = absurd none
 pattern_refused options file option (works.Call (NoRoom other)) none = absurd none

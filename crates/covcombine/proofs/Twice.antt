@@ -1,6 +1,6 @@
 -- Which names stand twice, found with the set of all earlier names.
-use Rattle.std.proofs.Common.{◌≡◌, ◌⊎◌, inl, inr, ⊎_elim, ℕ, zero, suc, ◌+◌, ◌<◌, Bool, true, false, true≢false, List, [], ◌∷◌, ◌++◌, length, map, take, drop, get_or, refl, sym, ap, subst, ◌∙◌, arith}
-use Rattle.std.proofs.lemmas.List.{get_or-map, length-append, length-map, map_push, take-map, take_more}
+use Rattle.std.proofs.Common.{◌≡◌, ◌⊎◌, inl, inr, ⊎_elim, ℕ, zero, suc, ◌+◌, ◌<◌, ◌≤◌, Bool, true, false, true≢false, List, [], ◌∷◌, ◌++◌, length, map, take, drop, get_or, refl, sym, ap, subst, ◌∙◌, arith}
+use Rattle.std.proofs.lemmas.List.{get_or-map, length-append, length-map, map_push, take-map, take_all, take_more}
 use Rattle.std.proofs.lemmas.List.Folds.{list_any-append}
 use Rattle.std.proofs.lemmas.Map.Text.{is_eq-slice_cmp}
 use Rattle.std.proofs.lemmas.Map.Views.{Contains-from_any}
@@ -158,3 +158,7 @@ was_there false is_new same is = absurd (true≢false (sym same ∙ is))
 pub was_new : (had is_new : Bool) → is_new ≡ not had → is_new ≡ true → had ≡ false
 was_new true is_new same is = absurd (true≢false (sym is ∙ same))
 was_new false is_new same is = refl
+
+-- all words were looked at
+pub none_at_end : {X : Type 0} (text : X → List ℕ) (words : List X) (i : ℕ) → length words ≤ i → ((n : List ℕ) → IsTwice (map text (take i words)) n → ⊥) → (n : List ℕ) → IsTwice (map text words) n → ⊥
+none_at_end {X} text words i done none n twice = none n (subst (λ (ws : List X). IsTwice (map text ws) n) (sym (take_all i words done)) twice)

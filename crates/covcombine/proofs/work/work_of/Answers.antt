@@ -19,7 +19,7 @@ returns-in_err-limits-clause-fault c =
 pub returns-in_err-check_names-clause-fault : goal.returns-in_err-check_names-clause-fault
 returns-in_err-check_names-clause-fault c =
     let told = err_from_is_err_and c.from_residual-in_err-check_names.result c.from_residual-in_err-check_names.ensures.1 in
-    rw (told.1, told.2) (name_refused c.args.options.now _ _ (subst (λ (names : List (List ℕ)). IsNameFault names _) c.get.ensures c.in_err-check_names.ensures.fault))
+    rw (told.1, told.2) (name_refused c.args.options.now _ _ (subst (λ (names : List (List ℕ)). IsNameFault names c.in_err-check_names.field-0) c.get.ensures c.in_err-check_names.ensures.fault))
 
 pub returns-clause-work : goal.returns-clause-work
 returns-clause-work c = record {
