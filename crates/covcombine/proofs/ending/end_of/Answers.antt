@@ -17,4 +17,4 @@ returns g c =
     let worst : c.failure_status.result ≡ failure_status c.args.collected.now.book.entries c.args.collected.now.refused = search rules in
     fails_so (work_data c.args.work) c.args.collected.now.book.entries c.args.collected.now.refused c.in_ok-failures.failures c.in_ok-warnings.warnings
     c.in_ok-failures.ensures c.in_ok-warnings.ensures _ _ (λ none. some_lines c.get.result.now (sym c.is_empty.ensures ∙ c.if-is_empty.false) (c.get.ensures ∙ none))
-    worst (c.in_ok-append.ensures ∙ ap (λ (bytes : List ℕ). c.in_ok-warnings.warnings ++ bytes) c.get-2.ensures)
+    worst (c.in_ok-append.ensures.ok ∙ ap (λ (bytes : List ℕ). c.in_ok-warnings.warnings ++ bytes) c.get-2.ensures)
