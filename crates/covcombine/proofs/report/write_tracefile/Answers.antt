@@ -19,7 +19,7 @@ returns-in-Ok-write_file-clause-reported g c =
     rw (← c.world.view_is)
     (file_told c.args.name.now (given_data c.args.given) _ _ _
     (c.in-Ok-write_file.ensures.finished, c.in-Ok-write_file.ensures.named, c.write_file.ensures.none ∙ sym begun, c.in-Ok-write_file.ensures.good)
-    (rw (← c.in-Ok.ensures.cut, ← c.get.ensures, ← c.get-2.ensures, ← c.get-3.ensures) c.print.ensures))
+    (rw (← c.in-Ok.ensures.cut, ← c.get.ensures, ← c.get-in-Ok-write_file.ensures, ← c.get-in-Ok-write_file-2.ensures) c.print.ensures))
 
 pub returns-in-Err-Failed-clause-reported : goal.returns-in-Err-Failed-clause-reported
 returns-in-Err-Failed-clause-reported g c =
