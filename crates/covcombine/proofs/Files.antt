@@ -45,7 +45,7 @@ at_all Fill collects.NotLast may = absurd may
 no_first : {X : Type 0} (MayGive : X → OutcomeData Note → Type 0) (inputs : List X) (index : ℕ) → IsFirstUnread MayGive (λ one. ⊥) inputs index → ⊥
 no_first MayGive [] index (fails, read) = fails
 no_first MayGive (one ∷ inputs) zero (fails, read) = fails
-no_first MayGive (one ∷ inputs) (suc index) (fails, first, read) = no_first MayGive inputs index (fails, read)
+no_first MayGive (one ∷ inputs) (suc index) unread = no_first MayGive inputs index (unread.0, unread.1.1)
 
 module _ {X Folder S : Type 0} (view : InputView X Folder S) (at : Folder) (strictness : Strictness) (of : Folder → FolderData) (left : S → Option (List ℕ)) (failed_reads : S → ℕ) where
   -- what an input gives that isn't opened is what comes of its file
