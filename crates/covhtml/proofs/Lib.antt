@@ -1,0 +1,12 @@
+pub mod Branches
+pub mod Chunks
+pub mod Digits
+pub mod Fronts
+pub mod LastNames
+pub mod LaterRows
+pub mod NamesApart
+pub mod PointsKept
+pub mod ReadAgain
+pub mod RowsRise
+pub mod SafeNames
+pub mod Texts

@@ -1,0 +1,11 @@
+pub mod Shown
+pub mod ReadBack
+pub mod PageName
+pub mod Rates
+pub mod Frame
+pub mod Rows
+pub mod RowView
+pub mod SectionRows
+pub mod SourcePage
+pub mod IndexPage
+pub mod PagesView

@@ -1,0 +1,60 @@
+//! What pages show.
+
+ghost use Rattle.covtable.specs.Totals.{AreTotals};
+
+use crate::rows::Row;
+use covtable::{FunctionValue, Totals};
+
+/// A source file in the index.
+#[derive(Clone, Copy)]
+pub struct IndexedFile<'a> {
+    /// The name of the file's page, as `page_name` returns it.
+    pub page: &'a [u8],
+    /// The source file's path.
+    pub path: &'a [u8],
+    /// The file's totals, as `list` shows them.
+    pub totals: Totals,
+    ghost are_totals: { AreTotals totals },
+}
+
+/// A directory in the index.
+#[derive(Clone, Copy)]
+pub struct Directory<'a> {
+    /// The directory's path.
+    pub path: &'a [u8],
+    /// The totals of the directory's files.
+    pub totals: Totals,
+    /// The directory's files, in the order of their rows.
+    pub files: &'a [IndexedFile<'a>],
+    ghost are_totals: { AreTotals totals },
+}
+
+/// The page that lists all source files.
+#[derive(Clone, Copy)]
+pub struct IndexPage<'a> {
+    /// The title of the page.
+    pub title: &'a [u8],
+    /// A date that the page shows under its title, if any. Without one, the same input gives the same page on each day.
+    pub date: Option<&'a [u8]>,
+    /// The totals of all files.
+    pub totals: Totals,
+    /// The directories, in the order of the page.
+    pub directories: &'a [Directory<'a>],
+    ghost are_totals: { AreTotals totals },
+}
+
+/// The page of a source file.
+#[derive(Clone, Copy)]
+pub struct SourcePage<'a> {
+    /// The source file's path, which is the page's title.
+    pub path: &'a [u8],
+    /// The file's totals, as `list` shows them.
+    pub totals: Totals,
+    /// The file's functions, in the order of their rows.
+    pub functions: &'a [FunctionValue<'a>],
+    /// The lines that have points, ascending by number.
+    pub rows: &'a [Row<'a>],
+    /// The text of the source file. Lines that it doesn't have are shown without a text, so it may be empty.
+    pub source: &'a [u8],
+    ghost are_totals: { AreTotals totals },
+}
