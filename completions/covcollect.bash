@@ -54,7 +54,7 @@ _covcollect() {
         elif [[ -z $ended && ${words[i]} == -* ]]; then
             # The value of an option is a word of its own, where it isn't part of the option's.
             case ${words[i]} in
-                -j | --jobs | -o | --output | --include | --exclude | --test | --expect) ((i++)) ;;
+                -j | --jobs | -o | --output | --include | --exclude | --test | --expect | --title | --date | --source) ((i++)) ;;
                 --fail-under-lines | --fail-under-functions | --fail-under-branches) ((i++)) ;;
             esac
             [[ $subcommand${words[i]} == check--gcov ]] && annotated=1
@@ -67,7 +67,7 @@ _covcollect() {
 
     if [[ -z $ended ]]; then
         case $subcommand$prev in
-            merge--jobs | merge-j | summary--jobs | summary-j | list--jobs | list-j | check--jobs | check-j | combine--jobs | combine-j)
+            merge--jobs | merge-j | summary--jobs | summary-j | list--jobs | list-j | check--jobs | check-j | combine--jobs | combine-j | html--jobs | html-j)
                 # The number of processors, of which 64 can be used.
                 i=$(nproc 2>/dev/null)
                 mapfile -t COMPREPLY < <(compgen -W "$((i > 64 ? 64 : i))" -- "$cur")
@@ -82,9 +82,15 @@ _covcollect() {
                 _filedir
                 return
                 ;;
-            # A pattern, the name of a test, a threshold, and a number of files.
+            # The folder for pages.
+            html--output | html-o)
+                _filedir -d
+                return
+                ;;
+            # A pattern, the name of a test, a threshold, a number of files, and a text.
             merge--include | merge--exclude | summary--include | summary--exclude | list--include | list--exclude | gcov--test | \
-                combine--include | combine--exclude | combine--expect | *--fail-under-lines | *--fail-under-functions | *--fail-under-branches)
+                combine--include | combine--exclude | combine--expect | html--include | html--exclude | html--title | html--date | html--source | \
+                *--fail-under-lines | *--fail-under-functions | *--fail-under-branches)
                 return
                 ;;
         esac
@@ -102,6 +108,7 @@ _covcollect() {
                     options+=' -j --jobs -o --output --strict --include --exclude --expect --list --json -q --quiet'
                     options+=' --fail-under-lines --fail-under-functions --fail-under-branches'
                     ;;
+                html) options+=' -j --jobs --lcov2 --strict --large --include --exclude -o --output --title --date --source' ;;
             esac
             mapfile -t COMPREPLY < <(compgen -W "$options" -- "$cur")
             return
@@ -109,8 +116,8 @@ _covcollect() {
     fi
 
     case $subcommand$annotated in
-        '') mapfile -t COMPREPLY < <(compgen -W 'merge summary list extract remove gcov check combine' -- "$cur") ;;
-        merge | summary | list | check | combine) _covcollect_files "$tracefiles" ;;
+        '') mapfile -t COMPREPLY < <(compgen -W 'merge summary list extract remove gcov check combine html' -- "$cur") ;;
+        merge | summary | list | check | combine | html) _covcollect_files "$tracefiles" ;;
         gcov | check1) _covcollect_files gcov ;;
         extract | remove)
             if ((others == 0)); then

@@ -12,7 +12,7 @@ function __covcollect_words
             echo -- $word
         else if test "$word" = --
             set ended yes
-        else if contains -- "$word" -j --jobs -o --output --include --exclude --test --expect --fail-under-{lines,functions,branches}
+        else if contains -- "$word" -j --jobs -o --output --include --exclude --test --expect --title --date --source --fail-under-{lines,functions,branches}
             set value yes
         else if not string match -q -- '-*' $word
             echo -- $word
@@ -94,16 +94,18 @@ complete -c covcollect -n __covcollect_begins -a remove -d 'Leave out the source
 complete -c covcollect -n __covcollect_begins -a gcov -d 'Make a tracefile of what gcov wrote'
 complete -c covcollect -n __covcollect_begins -a check -d 'Tell what is read of each file, and add nothing up'
 complete -c covcollect -n __covcollect_begins -a combine -d 'Merge the tracefiles of many jobs, and tell how much is hit'
-complete -c covcollect -n '__covcollect_within merge summary list extract remove check' -l lcov2 -d 'The tracefiles may be of LCOV 2'
+complete -c covcollect -n __covcollect_begins -a html -d 'Write pages that show the coverage in a browser'
+complete -c covcollect -n '__covcollect_within merge summary list extract remove check html' -l lcov2 -d 'The tracefiles may be of LCOV 2'
 complete -c covcollect -n '__covcollect_within merge summary list extract remove' -l strict -d 'Refuse files with no items, odd or skipped lines; unmatched patterns'
 complete -c covcollect -n '__covcollect_within check' -l strict -d 'Fail for odd or skipped lines too'
 complete -c covcollect -n '__covcollect_within combine' -l strict -d 'Refuse what gets a warning, and files with unknown keys'
-complete -c covcollect -n '__covcollect_within merge summary list extract remove check' -l large -d 'Read tracefiles above 64 MiB in pieces'
-complete -c covcollect -n '__covcollect_within merge summary list check combine' -s j -l jobs -x -a '(__covcollect_processors)' -d 'How many files are read at once, 1 to 64'
+complete -c covcollect -n '__covcollect_within html' -l strict -d 'Refuse files with no items, odd or skipped lines; unmatched patterns; missing sources'
+complete -c covcollect -n '__covcollect_within merge summary list extract remove check html' -l large -d 'Read tracefiles above 64 MiB in pieces'
+complete -c covcollect -n '__covcollect_within merge summary list check combine html' -s j -l jobs -x -a '(__covcollect_processors)' -d 'How many files are read at once, 1 to 64'
 complete -c covcollect -n '__covcollect_within merge extract remove gcov combine' -s o -l output -x -a '(__covcollect_tracefiles)' -d 'Write to this file, which may be an input'
 complete -c covcollect -n '__covcollect_within summary list' -s o -l output -r -F -d 'Write to this file'
-complete -c covcollect -n '__covcollect_within merge summary list combine' -l include -x -d 'Only source files that match the pattern'
-complete -c covcollect -n '__covcollect_within merge summary list combine' -l exclude -x -d 'No source files that match the pattern'
+complete -c covcollect -n '__covcollect_within merge summary list combine html' -l include -x -d 'Only source files that match the pattern'
+complete -c covcollect -n '__covcollect_within merge summary list combine html' -l exclude -x -d 'No source files that match the pattern'
 complete -c covcollect -n '__covcollect_within summary list combine' -l json -d 'Print the numbers as JSON'
 complete -c covcollect -n '__covcollect_within summary combine' -l fail-under-lines -x -d 'Status 6 if fewer are hit, in percent'
 complete -c covcollect -n '__covcollect_within summary combine' -l fail-under-functions -x -d 'Status 6 if fewer are hit, in percent'
@@ -111,9 +113,13 @@ complete -c covcollect -n '__covcollect_within summary combine' -l fail-under-br
 complete -c covcollect -n '__covcollect_within combine' -l expect -x -d 'Status 5 unless so many files are read'
 complete -c covcollect -n '__covcollect_within combine' -l list -d 'List each source file, with -o'
 complete -c covcollect -n '__covcollect_within combine' -s q -l quiet -d 'Show no progress'
+complete -c covcollect -n '__covcollect_within html' -s o -l output -x -a '(__fish_complete_directories (commandline -ct))' -d 'Write the pages into this folder'
+complete -c covcollect -n '__covcollect_within html' -l title -x -d 'The title of the index'
+complete -c covcollect -n '__covcollect_within html' -l date -x -d 'The date that the index shows'
+complete -c covcollect -n '__covcollect_within html' -l source -x -d 'Where source files lie, as OLD=NEW'
 complete -c covcollect -n '__covcollect_within gcov' -l test -x -d 'The test that the counts are of'
 complete -c covcollect -n '__covcollect_within check' -l gcov -d 'The files are what gcov wrote'
-complete -c covcollect -n '__covcollect_within merge summary list combine' -a '(__covcollect_tracefiles)'
+complete -c covcollect -n '__covcollect_within merge summary list combine html' -a '(__covcollect_tracefiles)'
 complete -c covcollect -n '__covcollect_within gcov' -a '(__covcollect_files .gcov)'
 complete -c covcollect -n '__covcollect_within check; and __covcollect_has_gcov' -a '(__covcollect_files .gcov)'
 complete -c covcollect -n '__covcollect_within check; and not __covcollect_has_gcov' -a '(__covcollect_tracefiles)'

@@ -1,8 +1,8 @@
 """The command line as crates/covcommand/src describes it to clap: the subcommands, with the arguments and options of each.
 
-    subcommands, of_program = command_line(text of described.rt and combining.rt, text of help.rt)
+    subcommands, of_program = command_line(text of described.rt, combining.rt and html.rt, text of help.rt)
 
-A function of these two gives an argument (`-> Arg`) or a command. It calls others of the file, or clap's builder.
+A function of these three gives an argument (`-> Arg`) or a command. It calls others of the file, or clap's builder.
 """
 import re
 

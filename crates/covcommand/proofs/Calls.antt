@@ -7,7 +7,7 @@ use Rattle.clap.specs.Words.{takes, fault_of, subcommand_of}
 use Rattle.clap.specs.declared.error.kind.ErrorKind.TheVariants as kind
 use Rattle.covcommand.specs.Asked.{AsksFor, AsksForAll, IsSizeOf, IsStrictnessOf, rows_met}
 use Rattle.covcommand.specs.CommandLine.{covcollect}
-use Rattle.covcommand.specs.declared.asked.Command.TheVariants.{Check, Combine, Extract, Gcov, Merge, Remove, Session, Summary}
+use Rattle.covcommand.specs.declared.asked.Command.TheVariants.{Check, Combine, Extract, Gcov, Html, Merge, Remove, Session, Summary}
 use Rattle.covcommand.specs.declared.asked.Command.TheVariants as commands
 use Rattle.covcommand.specs.declared.asked.Overview.TheVariants as overviews
 use Rattle.covcommand.specs.declared.asked.Strictness.TheVariants.{Lenient, Strict}
@@ -627,3 +627,51 @@ combine_no_files_refused = refl
 pub combine_lcov2_refused : fault_of covcollect (codes "covcollect" ∷ codes "combine" ∷ codes "--lcov2" ∷ codes "f" ∷ []) ≡ kind.UnknownArgument ∷ []
 unfolding clap_on_literals
 combine_lcov2_refused = refl
+
+-- ---- `html`
+
+pub html_few_asked : (folder : String Global) → codes "out" ≡ string_bytes folder
+    → AsksForAll (subcommand_of covcollect (codes "covcollect" ∷ codes "html" ∷ codes "f" ∷ codes "-o" ∷ codes "out" ∷ []))
+    (record { command = Html One 1 (record { includes = []; excludes = [] }) (record { folder = folder; title = None; date = None; sources = [] }) (codes "f" ∷ []); strictness = Lenient; size = Limited; output = None })
+unfolding clap_on_literals
+html_few_asked folder is = (
+  (
+    rows_for (codes "covcollect" ∷ codes "html" ∷ codes "f" ∷ codes "-o" ∷ codes "out" ∷ []),
+    named (codes "html") (subcommand_of covcollect (codes "covcollect" ∷ codes "html" ∷ codes "f" ∷ codes "-o" ∷ codes "out" ∷ [])) refl,
+    refl,
+    (codes "1", refl, refl),
+    (refl, refl),
+    record { folder = ap (λ t. Some t) is; title = refl; date = refl; sources = refl },
+    refl,
+  ),
+  refl,
+  refl,
+  refl,
+)
+
+pub html_some_asked : (folder : String Global) → codes "out" ≡ string_bytes folder
+    → AsksForAll (subcommand_of covcollect (codes "covcollect" ∷ codes "html" ∷ codes "--output=out" ∷ codes "--title" ∷ codes "t" ∷ codes "--date" ∷ codes "d" ∷ codes "--source" ∷ codes "a=b" ∷ codes "--source" ∷ codes "c=d" ∷ codes "--strict" ∷ codes "f" ∷ codes "g" ∷ []))
+    (record { command = Html One 1 (record { includes = []; excludes = [] }) (record { folder = folder; title = Some (codes "t"); date = Some (codes "d"); sources = codes "a=b" ∷ codes "c=d" ∷ [] }) (codes "f" ∷ codes "g" ∷ []); strictness = Strict; size = Limited; output = None })
+unfolding clap_on_literals
+html_some_asked folder is = (
+  (
+    rows_for (codes "covcollect" ∷ codes "html" ∷ codes "--output=out" ∷ codes "--title" ∷ codes "t" ∷ codes "--date" ∷ codes "d" ∷ codes "--source" ∷ codes "a=b" ∷ codes "--source" ∷ codes "c=d" ∷ codes "--strict" ∷ codes "f" ∷ codes "g" ∷ []),
+    named (codes "html") (subcommand_of covcollect (codes "covcollect" ∷ codes "html" ∷ codes "--output=out" ∷ codes "--title" ∷ codes "t" ∷ codes "--date" ∷ codes "d" ∷ codes "--source" ∷ codes "a=b" ∷ codes "--source" ∷ codes "c=d" ∷ codes "--strict" ∷ codes "f" ∷ codes "g" ∷ [])) refl,
+    refl,
+    (codes "1", refl, refl),
+    (refl, refl),
+    record { folder = ap (λ t. Some t) is; title = refl; date = refl; sources = refl },
+    refl,
+  ),
+  refl,
+  refl,
+  refl,
+)
+
+pub html_no_folder_refused : fault_of covcollect (codes "covcollect" ∷ codes "html" ∷ codes "f" ∷ []) ≡ kind.MissingRequiredArgument ∷ []
+unfolding clap_on_literals
+html_no_folder_refused = refl
+
+pub html_json_refused : fault_of covcollect (codes "covcollect" ∷ codes "html" ∷ codes "--json" ∷ codes "-o" ∷ codes "out" ∷ codes "f" ∷ []) ≡ kind.UnknownArgument ∷ []
+unfolding clap_on_literals
+html_json_refused = refl

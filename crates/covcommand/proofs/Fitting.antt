@@ -14,10 +14,10 @@ use Rattle.clap.specs.Walk.{Row, Text, answers_to, has_row, nothing_held, rows_a
 use Rattle.clap.specs.Simple.{App, Shape, argument_words, built, entered, filled, help_rule, label_of, names_of, rows_at, subcommand_of, with_index, with_subcommand}
 use Rattle.clap.specs.Takes.{is_given}
 use Rattle.clap.specs.Faults.{built_fault, check_fault, entered_fault, fault_of, level_fault, repeat_fault, walk_fault}
-use Rattle.covcommand.specs.CommandLine.{check, combine, covcollect, expect, extract, files, filtering, flag, gcov, jobs, json, limit, list, merge, output, own_jobs, patterns, program, quiet, remove, several, single, summary, test}
-use Rattle.covcommand.specs.Found.{Fits, HasCheck, HasCombining, HasFiltering, HasFlag, HasFlags, HasListing, HasMerging, HasSome, HasTest}
+use Rattle.covcommand.specs.CommandLine.{check, combine, covcollect, expect, extract, files, filtering, flag, folder, gcov, html, jobs, json, limit, list, merge, output, own_jobs, patterns, program, quiet, remove, several, single, sources, summary, test, text}
+use Rattle.covcommand.specs.Found.{Fits, HasCheck, HasCombining, HasFiltering, HasFlag, HasFlags, HasListing, HasMerging, HasShowing, HasSome, HasTest}
 use Rattle.covcommand.proofs.Walks.{EachKeeps, Keeps, level_keeps, no_faults, settled_after}
-use Rattle.covcommand.proofs.Rows.{EachDefaultFits, FitsValues, RowOf, RowsFit, append_fits, defaulted, defaults_fit, given_row, has_default, has_flag, has_jobs, has_number_if_any, has_some, has_test, held_row, is_flag, most_of, numbers, set_fits}
+use Rattle.covcommand.proofs.Rows.{EachDefaultFits, FitsValues, RowOf, RowsFit, append_fits, defaulted, defaults_fit, given_row, has_default, has_flag, has_folder, has_jobs, has_number_if_any, has_some, has_test, held_row, is_flag, most_of, numbers, set_fits}
 
 no : {A : Type 0} → false ≡ true → A
 no e = absurd cc
@@ -74,6 +74,11 @@ limit_keeps id i free again (v ∷ vs) rows none fit =
 output_keeps : (i : ℕ) → Keeps RowsFit (with_index i (filled output))
 output_keeps i again [] rows none fit = absurd cc
 output_keeps i again (v ∷ vs) rows none fit =
+    set_fits (codes "output") AsWritten (v ∷ vs) rows (any_fit (codes "output") v vs (refl, refl)) fit
+
+folder_keeps : (i : ℕ) → Keeps RowsFit (with_index i (filled folder))
+folder_keeps i again [] rows none fit = absurd cc
+folder_keeps i again (v ∷ vs) rows none fit =
     set_fits (codes "output") AsWritten (v ∷ vs) rows (any_fit (codes "output") v vs (refl, refl)) fit
 
 test_keeps : (i : ℕ) → Keeps RowsFit (with_index i (filled test))
@@ -394,6 +399,42 @@ combine_leaves words none =
       json = flag_left left (codes "json") refl refl;
     }
 
+html_leaves : Leaves (built_below html) HasShowing
+html_leaves words none =
+    let texts : EachKeeps RowsFit (with_index 2 (filled folder) ∷ with_index 2 (filled (text (codes "title")))
+    ∷ with_index 2 (filled (text (codes "date"))) ∷ with_index 2 (filled sources) ∷ with_index 2 (filled help_rule) ∷ []) = (
+      folder_keeps 2,
+      (
+        limit_keeps (codes "title") 2 (refl, refl),
+        (limit_keeps (codes "date") 2 (refl, refl), (patterns_keeps (codes "source") 2 (refl, refl), (help_keeps 2, tt))),
+      ),
+    ) in
+    let each : EachKeeps RowsFit (built_below html).rules = (
+      several_keeps (codes "FILE") 1 (refl, refl),
+      (
+        jobs_keeps 2,
+        (
+          flag_keeps (codes "lcov2") 2 refl,
+          (
+            flag_keeps (codes "strict") 2 refl,
+            (
+              flag_keeps (codes "large") 2 refl,
+              (patterns_keeps (codes "include") 2 (refl, refl), (patterns_keeps (codes "exclude") 2 (refl, refl), texts)),
+            ),
+          ),
+        ),
+      ),
+    ) in
+    let defaults : EachDefaultFits (built_below html).rules =
+    (tt, (one_job_fits, (unset_fits (codes "lcov2") refl, (unset_fits (codes "strict") refl, (unset_fits (codes "large") refl, (tt, (tt, (tt, (tt, (tt, (tt, (tt, tt)))))))))))) in
+    of_left _ (left_after (built_below html) words each defaults none)
+  where
+    of_left : (rows : List Row) → Left (built_below html) rows → HasShowing rows
+    of_left rows left =
+        let files = wanted _ _ _ left.none in
+        let output = wanted _ _ _ files.1 in
+        (has_folder rows (given_row (codes "output") rows left.fit output.0), merging_left left refl refl refl refl files.0)
+
 abbrev SubFits : Shape → Type 0
 SubFits s = Leaves s (Fits s.name)
 
@@ -406,7 +447,8 @@ merge_fits words none = record {
   remove = λ e. no e;
   gcov = λ e. no e;
   check = λ e. no e;
-  others = λ m s l x r g c. no (sym m);
+  combine = λ e. no e;
+  others = λ m s l x r g c k. no (sym m);
 }
 
 summary_fits : SubFits (built_below summary)
@@ -418,7 +460,8 @@ summary_fits words none = record {
   remove = λ e. no e;
   gcov = λ e. no e;
   check = λ e. no e;
-  others = λ m s l x r g c. no (sym s);
+  combine = λ e. no e;
+  others = λ m s l x r g c k. no (sym s);
 }
 
 list_fits : SubFits (built_below list)
@@ -430,7 +473,8 @@ list_fits words none = record {
   remove = λ e. no e;
   gcov = λ e. no e;
   check = λ e. no e;
-  others = λ m s l x r g c. no (sym l);
+  combine = λ e. no e;
+  others = λ m s l x r g c k. no (sym l);
 }
 
 extract_fits : SubFits (built_below extract)
@@ -442,7 +486,8 @@ extract_fits words none = record {
   remove = λ e. no e;
   gcov = λ e. no e;
   check = λ e. no e;
-  others = λ m s l x r g c. no (sym x);
+  combine = λ e. no e;
+  others = λ m s l x r g c k. no (sym x);
 }
 
 remove_fits : SubFits (built_below remove)
@@ -454,7 +499,8 @@ remove_fits words none = record {
   remove = λ e. filtering_leaves (codes "remove") words none;
   gcov = λ e. no e;
   check = λ e. no e;
-  others = λ m s l x r g c. no (sym r);
+  combine = λ e. no e;
+  others = λ m s l x r g c k. no (sym r);
 }
 
 gcov_fits : SubFits (built_below gcov)
@@ -466,7 +512,8 @@ gcov_fits words none = record {
   remove = λ e. no e;
   gcov = λ e. gcov_leaves words none;
   check = λ e. no e;
-  others = λ m s l x r g c. no (sym g);
+  combine = λ e. no e;
+  others = λ m s l x r g c k. no (sym g);
 }
 
 check_fits : SubFits (built_below check)
@@ -478,7 +525,8 @@ check_fits words none = record {
   remove = λ e. no e;
   gcov = λ e. no e;
   check = λ e. check_leaves words none;
-  others = λ m s l x r g c. no (sym c);
+  combine = λ e. no e;
+  others = λ m s l x r g c k. no (sym c);
 }
 
 combine_fits : SubFits (built_below combine)
@@ -490,7 +538,21 @@ combine_fits words none = record {
   remove = λ e. no e;
   gcov = λ e. no e;
   check = λ e. no e;
-  others = λ m s l x r g c. (refl, combine_leaves words none);
+  combine = λ e. combine_leaves words none;
+  others = λ m s l x r g c k. no (sym k);
+}
+
+html_fits : SubFits (built_below html)
+html_fits words none = record {
+  merge = λ e. no e;
+  summary = λ e. no e;
+  list = λ e. no e;
+  extract = λ e. no e;
+  remove = λ e. no e;
+  gcov = λ e. no e;
+  check = λ e. no e;
+  combine = λ e. no e;
+  others = λ m s l x r g c k. (refl, html_leaves words none);
 }
 
 -- ---- the subcommand that the words name
@@ -533,7 +595,7 @@ built_fits a words name rows each none met =
     entered_fits a stop name rows each below.0 met
 
 each_sub : EachSub (built covcollect).subs
-each_sub = (merge_fits, (summary_fits, (list_fits, (extract_fits, (remove_fits, (gcov_fits, (check_fits, (combine_fits, tt))))))))
+each_sub = (merge_fits, (summary_fits, (list_fits, (extract_fits, (remove_fits, (gcov_fits, (check_fits, (combine_fits, (html_fits, tt)))))))))
 
 pub fits : (words : List Text) (name : Text) (rows : List Row) → fault_of covcollect words ≡ [] → subcommand_of covcollect words ≡ Some (name, rows) → Fits name rows
 fits words name rows none met = built_fits (built covcollect) (argument_words covcollect words) name rows each_sub none met

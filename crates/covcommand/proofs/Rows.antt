@@ -20,7 +20,7 @@ use Rattle.clap.specs.declared.builder.value_parser.ValueParser.{ValueParser}
 use Rattle.clap.specs.declared.builder.value_parser.ValueParser.TheVariants as parser
 use Rattle.clap.specs.declared.parser.matches.ValueSource.{ValueSource}
 use Rattle.clap.specs.declared.parser.matches.ValueSource.TheVariants.{CommandLine, DefaultValue}
-use Rattle.covcommand.specs.Found.{HasFlag, HasJobs, HasNumberIfAny, HasSome, HasTest}
+use Rattle.covcommand.specs.Found.{HasFlag, HasFolder, HasJobs, HasNumberIfAny, HasSome, HasTest}
 
 abbrev pub numbers : (most : ℕ) → ValueParser
 numbers most = parser.Signed (pos 1) (pos most)
@@ -141,6 +141,11 @@ first_there id how (v ∷ vs) fits = (v, refl)
 
 pub has_test : (rows : List Row) → RowOf (codes "test") rows → HasTest rows
 has_test rows row =
+    let first = first_there row.0.id row.0.reading row.0.values row.3 in
+    (first.0, ap (λ (o : Option Row). option_and_then (λ r. slice_get r.values 0) o) row.1 ∙ first.1)
+
+pub has_folder : (rows : List Row) → RowOf (codes "output") rows → HasFolder rows
+has_folder rows row =
     let first = first_there row.0.id row.0.reading row.0.values row.3 in
     (first.0, ap (λ (o : Option Row). option_and_then (λ r. slice_get r.values 0) o) row.1 ∙ first.1)
 

@@ -8,9 +8,10 @@ use Rattle.clap.specs.Walk.{Row, Text, all_of, first_of, one_of}
 use Rattle.covcommand.specs.declared.asked.Asked.{Asked}
 use Rattle.covcommand.specs.declared.asked.CombineOptions.{CombineOptions}
 use Rattle.covcommand.specs.declared.asked.Command.{Command}
-use Rattle.covcommand.specs.declared.asked.Command.TheVariants.{Session, Merge, Summary, Extract, Remove, Gcov, Check, Combine}
+use Rattle.covcommand.specs.declared.asked.Command.TheVariants.{Session, Merge, Summary, Extract, Remove, Gcov, Check, Combine, Html}
 use Rattle.covcommand.specs.declared.asked.Command.TheVariants as commands
 use Rattle.covcommand.specs.declared.asked.Overview.{Overview}
+use Rattle.covcommand.specs.declared.asked.PageOptions.{PageOptions}
 use Rattle.covcommand.specs.declared.asked.Overview.TheVariants as overviews
 use Rattle.covcommand.specs.declared.asked.SourceFilter.{SourceFilter}
 use Rattle.covcommand.specs.declared.asked.Strictness.{Strictness}
@@ -58,13 +59,21 @@ IsFormOf rows Words = one_of (codes "json") rows ≡ Some (codes "false")
 IsFormOf rows Json = one_of (codes "json") rows ≡ Some (codes "true")
 
 -- the word that clap found for the option, as it is, and `None` if the option isn't given
-abbrev pub IsLimitOf : Text → List Row → Option Text → Type 0
-IsLimitOf id rows limit = first_of id rows ≡ limit
+abbrev pub IsTextIfAny : Text → List Row → Option Text → Type 0
+IsTextIfAny id rows text = first_of id rows ≡ text
 
 -- the word of each option `--fail-under-..`
 abbrev pub AreLimitsOf : List Row → Limits → Type 0
-AreLimitsOf rows limits = IsLimitOf (codes "fail-under-lines") rows limits.lines
-    × IsLimitOf (codes "fail-under-functions") rows limits.functions × IsLimitOf (codes "fail-under-branches") rows limits.branches
+AreLimitsOf rows limits = IsTextIfAny (codes "fail-under-lines") rows limits.lines
+    × IsTextIfAny (codes "fail-under-functions") rows limits.functions × IsTextIfAny (codes "fail-under-branches") rows limits.branches
+
+-- how pages are written: into the folder that `--output` names, with the texts of `--title` and `--date`, and with the words of
+-- `--source` in their order
+pub record ArePagesOf (rows : List Row) (pages : PageOptions) : Type 0 where
+  pub folder : first_of (codes "output") rows ≡ Some (string_bytes pages.folder)
+  pub title : IsTextIfAny (codes "title") rows pages.title
+  pub date : IsTextIfAny (codes "date") rows pages.date
+  pub sources : pages.sources ≡ values_of (codes "source") rows
 
 -- the number that clap found for the option, and `None` if the option isn't given
 abbrev pub IsNumberIfAny : Text → List Row → Option ℕ → Type 0
@@ -108,6 +117,9 @@ AsksFor met (Gcov test names) = (rows : List Row) × (met ≡ Some (codes "gcov"
 AsksFor met (Check how jobs names) = (rows : List Row) × (met ≡ Some (codes "check", rows))
     × IsFormatOf rows how × IsNumberOf rows jobs × (names ≡ values_of (codes "FILE") rows)
 AsksFor met (Combine options) = (rows : List Row) × (met ≡ Some (codes "combine", rows)) × AsksToCombine rows options
+AsksFor met (Html version jobs filter pages names) = (rows : List Row) × (met ≡ Some (codes "html", rows))
+    × IsVersionOf rows version × IsNumberOf rows jobs × IsFilterOf rows filter × ArePagesOf rows pages
+    × (names ≡ values_of (codes "FILE") rows)
 
 -- a call is strict if clap sets the flag `--strict`, and lenient if it doesn't
 abbrev pub IsStrictnessOf : List Row → Strictness → Type 0
@@ -125,6 +137,7 @@ HasStrictness rows (Remove version names) strictness = IsStrictnessOf rows stric
 HasStrictness rows (Gcov test names) strictness = strictness ≡ Lenient
 HasStrictness rows (Check how jobs names) strictness = IsStrictnessOf rows strictness
 HasStrictness rows (Combine options) strictness = IsStrictnessOf rows strictness
+HasStrictness rows (Html version jobs filter pages names) strictness = IsStrictnessOf rows strictness
 
 -- a call reads tracefiles above the limit if clap sets the flag `--large`, and refuses them if it doesn't
 abbrev pub IsSizeOf : List Row → TextSize → Type 0
@@ -143,13 +156,14 @@ HasSize rows (Remove version names) size = IsSizeOf rows size
 HasSize rows (Gcov test names) size = size ≡ Limited
 HasSize rows (Check how jobs names) size = IsSizeOf rows size
 HasSize rows (Combine options) size = size ≡ Large
+HasSize rows (Html version jobs filter pages names) size = IsSizeOf rows size
 
 -- the word that clap found for `--output`, as it is, and `None` if the option isn't given
 abbrev pub IsOutputOf : List Row → Option (String Global) → Type 0
 IsOutputOf rows output = first_of (codes "output") rows ≡ option_map string_bytes output
 
 -- where the text of this command goes: to the file that `--output` names, or to standard output (`None`). The text of a session and
--- of `check` goes to standard output
+-- of `check` goes to standard output. `html` has no text, and names its folder itself
 abbrev pub GoesTo : List Row → Command → Option (String Global) → Type 0
 GoesTo rows Session output = output ≡ None
 GoesTo rows (Merge version jobs filter names) output = IsOutputOf rows output
@@ -160,6 +174,7 @@ GoesTo rows (Remove version names) output = IsOutputOf rows output
 GoesTo rows (Gcov test names) output = IsOutputOf rows output
 GoesTo rows (Check how jobs names) output = output ≡ None
 GoesTo rows (Combine options) output = IsOutputOf rows output
+GoesTo rows (Html version jobs filter pages names) output = output ≡ None
 
 -- the rows of the subcommand that clap reads from the words of a call, and none for a session
 abbrev pub rows_met : Option (Text × List Row) → List Row
@@ -174,8 +189,8 @@ AsksForAll met asked = AsksFor met asked.command × HasStrictness (rows_met met)
 abbrev pub IsUpToIfAny : (most : ℕ) → Option ℕ → Type 0
 IsUpToIfAny most number = IfSome number (λ n. (1 ≤ n) × (n ≤ most))
 
--- `merge`, `summary`, `list` and `check` have 1 to 64 jobs, and `combine` if it names a number. Each subcommand but `combine` has at least
--- one name, and `extract` and `remove` have at least two
+-- `merge`, `summary`, `list`, `check` and `html` have 1 to 64 jobs, and `combine` if it names a number. Each subcommand but `combine` has at
+-- least one name, and `extract` and `remove` have at least two
 abbrev pub IsInBounds : Command → Type 0
 IsInBounds Session = Unit {0}
 IsInBounds (Merge version jobs filter names) = (1 ≤ jobs) × (jobs ≤ 64) × (1 ≤ length names)
@@ -186,3 +201,4 @@ IsInBounds (Remove version names) = 2 ≤ length names
 IsInBounds (Gcov test names) = 1 ≤ length names
 IsInBounds (Check how jobs names) = (1 ≤ jobs) × (jobs ≤ 64) × (1 ≤ length names)
 IsInBounds (Combine options) = IsUpToIfAny 64 options.jobs × IsUpToIfAny 1048576 options.expected
+IsInBounds (Html version jobs filter pages names) = (1 ≤ jobs) × (jobs ≤ 64) × (1 ≤ length names)

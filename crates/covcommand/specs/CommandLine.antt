@@ -170,11 +170,32 @@ abbrev pub combine : App
 combine = with_rule (with_rule (with_rule showing (limit (codes "fail-under-lines")))
     (limit (codes "fail-under-functions"))) (limit (codes "fail-under-branches"))
 
+-- `--output DIR` or `-o DIR`, which has to be given
+abbrev pub folder : Rule
+folder = record output { required = true }
+
+-- an option that takes a text that pages show. It may be given once, or not at all: `--title TEXT`, `--date TEXT`
+abbrev pub text : Text → Rule
+text id = limit id
+
+-- `--source OLD=NEW`. It may be given any number of times, or not at all
+abbrev pub sources : Rule
+sources = patterns (codes "source")
+
+-- `html`: files, how they are read, and patterns of source files
+abbrev pub shown_files : App
+shown_files = with_rule (with_rule (with_rule (with_rule (with_rule (with_rule (with_rule (new_app (codes "html"))
+    (several (codes "FILE"))) jobs) lcov2) strict) large) (patterns (codes "include"))) (patterns (codes "exclude"))
+
+-- and what is shown
+abbrev pub html : App
+html = with_rule (with_rule (with_rule (with_rule shown_files folder) (text (codes "title"))) (text (codes "date"))) sources
+
 -- the program, which has a version and no subcommand `help`
 abbrev pub program : App
 program = on_top (λ s. record s { disable_help_subcommand = true; has_version = true }) (new_app (codes "covcollect"))
 
 -- the program with its subcommands
 abbrev pub covcollect : App
-covcollect = with_subcommand (with_subcommand (with_subcommand (with_subcommand (with_subcommand (with_subcommand (with_subcommand (with_subcommand program
-    merge.top) summary.top) list.top) extract.top) remove.top) gcov.top) check.top) combine.top
+covcollect = with_subcommand (with_subcommand (with_subcommand (with_subcommand (with_subcommand (with_subcommand (with_subcommand (with_subcommand (with_subcommand program
+    merge.top) summary.top) list.top) extract.top) remove.top) gcov.top) check.top) combine.top) html.top

@@ -6,7 +6,7 @@ use Rattle.clap.specs.Values.{IsSignedIn}
 use Rattle.clap.specs.Walk.{Row, Text, first_of, one_of}
 use Rattle.covcommand.specs.Asked.{values_of}
 use Rattle.covcommand.specs.declared.asked.Command.{Command}
-use Rattle.covcommand.specs.declared.asked.Command.TheVariants.{Session, Merge, Summary, Extract, Remove, Gcov, Check, Combine}
+use Rattle.covcommand.specs.declared.asked.Command.TheVariants.{Session, Merge, Summary, Extract, Remove, Gcov, Check, Combine, Html}
 use Rattle.covcommand.specs.declared.asked.Command.TheVariants as commands
 
 -- clap found at least one word for the argument
@@ -62,6 +62,14 @@ pub record HasCombining (rows : List Row) : Type 0 where
 abbrev pub HasCheck : List Row → Type 0
 HasCheck rows = HasFlag (codes "gcov") rows × HasFlags rows × HasJobs rows × HasSome (codes "FILE") rows
 
+-- clap found a word for `--output`
+abbrev pub HasFolder : List Row → Type 0
+HasFolder rows = (text : Text) × (first_of (codes "output") rows ≡ Some text)
+
+-- clap found what `html` requires. It requires nothing of `--title`, `--date` and `--source`, which may have no row
+abbrev pub HasShowing : List Row → Type 0
+HasShowing rows = HasFolder rows × HasMerging rows
+
 -- clap found for the arguments of the subcommand of this name what the subcommand requires
 pub record Fits (name : Text) (rows : List Row) : Type 0 where
   pub merge : bytes_eq name (codes "merge") ≡ true → HasMerging rows
@@ -71,10 +79,11 @@ pub record Fits (name : Text) (rows : List Row) : Type 0 where
   pub remove : bytes_eq name (codes "remove") ≡ true → HasFiltering rows
   pub gcov : bytes_eq name (codes "gcov") ≡ true → HasTest rows × HasSome (codes "FILE") rows
   pub check : bytes_eq name (codes "check") ≡ true → HasCheck rows
+  pub combine : bytes_eq name (codes "combine") ≡ true → HasCombining rows
   pub others : bytes_eq name (codes "merge") ≡ false → bytes_eq name (codes "summary") ≡ false
       → bytes_eq name (codes "list") ≡ false → bytes_eq name (codes "extract") ≡ false
       → bytes_eq name (codes "remove") ≡ false → bytes_eq name (codes "gcov") ≡ false
-      → bytes_eq name (codes "check") ≡ false → (name ≡ codes "combine") × HasCombining rows
+      → bytes_eq name (codes "check") ≡ false → bytes_eq name (codes "combine") ≡ false → (name ≡ codes "html") × HasShowing rows
 
 -- clap says of the flags of all subcommands but `gcov` whether they are set, if the command has them. `combine` has `--strict` alone of
 -- these
@@ -88,3 +97,4 @@ TellsFlags rows (Remove version names) = HasFlags rows
 TellsFlags rows (Gcov test names) = Unit {0}
 TellsFlags rows (Check how jobs names) = HasFlags rows
 TellsFlags rows (Combine options) = HasFlag (codes "strict") rows
+TellsFlags rows (Html version jobs filter pages names) = HasFlags rows

@@ -92,6 +92,19 @@ pub enum Command {
     },
     /// `combine`: the merged tracefile of the files of many jobs, and an overview of it.
     Combine(CombineOptions),
+    /// `html`: a folder of pages that show the coverage in a browser.
+    Html {
+        /// Which versions of tracefiles are read.
+        version: LcovVersion,
+        /// How many jobs read at once, from 1 to 64.
+        jobs: u32,
+        /// Which source files are shown.
+        filter: SourceFilter,
+        /// How the pages are written.
+        pages: PageOptions,
+        /// The files' paths, at least one.
+        names: Names,
+    },
 }
 
 /// The options of `combine`.
@@ -120,6 +133,19 @@ pub enum Overview {
     Summary,
     /// With `--list`: the totals of each chosen source file and of all, as `list` prints them.
     List,
+}
+
+/// How pages are written. The texts are `None` for a missing option.
+#[derive(Drop)]
+pub struct PageOptions {
+    /// `--output`: the path of the folder for the pages.
+    pub folder: String,
+    /// `--title`: the title of the index.
+    pub title: Option<Bytes>,
+    /// `--date`: the date that the index shows.
+    pub date: Option<Bytes>,
+    /// `--source`: where source files lie, each as an unparsed argument.
+    pub sources: Names,
 }
 
 /// The choice of source files, by shell patterns for their paths. Each list has the patterns of one option in order, and is empty

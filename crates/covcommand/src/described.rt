@@ -8,6 +8,7 @@ ghost use Rattle.covcommand.specs.Built.{HasNoGlobals, IsRule};
 
 use crate::combining::combine;
 use crate::help;
+use crate::html::html;
 use clap::{Arg, ArgAction, Command, value_parser};
 use std::alloc::{AllocError, Global};
 
@@ -22,7 +23,8 @@ pub(crate) fn described<'a>(alloc: Global) -> Result<Command<'a>, AllocError>
     let removing = with(extracting, remove(alloc));
     let converting = with(removing, gcov(alloc));
     let checking = with(converting, check(alloc));
-    with(checking, combine(alloc))
+    let combining = with(checking, combine(alloc));
+    with(combining, html(alloc))
 }
 
 /// Adds a subcommand to `command`. It takes both as results, so that a description is a chain of moves without an early return: each
@@ -167,7 +169,7 @@ fn check<'a>(alloc: Global) -> Result<Command<'a>, AllocError>
 }
 
 /// A required argument that may be repeated.
-fn several<'a>(alloc: Global, id: &'a str, help: &'a str) -> Arg<'a>
+pub(crate) fn several<'a>(alloc: Global, id: &'a str, help: &'a str) -> Arg<'a>
     ensures { IsRule (line.several id.entry.now) result }
 {
     Arg::new(alloc, id)
@@ -188,7 +190,7 @@ fn tracefile<'a>(alloc: Global) -> Arg<'a>
 }
 
 /// `--jobs N` or `-j N`, the number of jobs.
-fn jobs<'a>(alloc: Global) -> Arg<'a>
+pub(crate) fn jobs<'a>(alloc: Global) -> Arg<'a>
     ensures { IsRule line.jobs result }
 {
     Arg::new(alloc, "jobs")
@@ -255,7 +257,7 @@ fn annotated<'a>(alloc: Global) -> Arg<'a>
 }
 
 /// The flag `--lcov2`: tracefiles of LCOV 2 are read too.
-fn lcov2<'a>(alloc: Global) -> Arg<'a>
+pub(crate) fn lcov2<'a>(alloc: Global) -> Arg<'a>
     ensures { IsRule line.lcov2 result }
 {
     flag(alloc, "lcov2", help::LCOV2)
@@ -269,7 +271,7 @@ pub(crate) fn strict<'a>(alloc: Global, help: &'a str) -> Arg<'a>
 }
 
 /// The flag `--large`: tracefiles above the size limit are read in chunks.
-fn large<'a>(alloc: Global) -> Arg<'a>
+pub(crate) fn large<'a>(alloc: Global) -> Arg<'a>
     ensures { IsRule line.large result }
 {
     flag(alloc, "large", help::LARGE)

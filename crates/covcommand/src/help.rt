@@ -17,6 +17,7 @@ In place of lcov's calls write (with the patterns in quotes):
   lcov -r A.info '/usr/*' -o OUT     covcollect remove A.info '/usr/*' -o OUT
   lcov --summary A.info              covcollect summary A.info
   lcov --list A.info                 covcollect list A.info
+  genhtml A.info -o DIR              covcollect html A.info -o DIR
 
 With --lcov2 tracefiles of LCOV 2 are read too. Without it their functions (FNL,
 FNA, and FN with an end line) are skipped or look uncalled: covcollect check
@@ -163,6 +164,22 @@ and to end with status 6 where too little is hit
   covcollect combine --fail-under-lines 80 -o all.info jobs/*.info
 Without -o the tracefile is printed.";
 
+/// What `html` does.
+pub(crate) const HTML: &str = "Writes pages that show the coverage in a browser (genhtml)";
+
+/// How to call `html`.
+pub(crate) const HTML_END: &str = "\
+Writes index.html and a page for each source file into a folder, with the text
+of the source if it can be read. The folder is replaced as a whole if html wrote
+it, and refused if it has other files. In place of
+  genhtml A.info -o DIR
+write
+  covcollect html A.info -o DIR
+and where the sources lie elsewhere
+  covcollect html --source /build=/home/me/src A.info -o DIR
+and to end with status 5 unless each source can be shown
+  covcollect html --strict A.info -o DIR";
+
 /// The help of an argument for tracefiles.
 pub(crate) const TRACEFILES: &str = "Tracefiles, read in this order";
 
@@ -208,6 +225,11 @@ pub(crate) const STRICT_COMBINE: &str = "\
 Refuse what gets a warning, and files with
 unknown keys";
 
+/// The help of `--strict` for `html`. It has two lines as that of the other subcommands.
+pub(crate) const STRICT_HTML: &str = "\
+Refuse files with no items, odd or skipped
+lines; unmatched patterns; missing sources";
+
 /// The help of `--large`.
 pub(crate) const LARGE: &str = "Read tracefiles above 64 MiB in pieces";
 
@@ -237,6 +259,20 @@ pub(crate) const FAIL_UNDER_FUNCTIONS: &str = "Status 6 if less than N% of funct
 
 /// The help of `--fail-under-branches`.
 pub(crate) const FAIL_UNDER_BRANCHES: &str = "Status 6 if less than N% of branches are hit";
+
+/// The help of `--output` for `html`.
+pub(crate) const FOLDER: &str = "Folder for the pages: new, empty, or of html";
+
+/// The help of `--title`.
+pub(crate) const TITLE: &str = "Title of the index; Coverage without it";
+
+/// The help of `--date`.
+pub(crate) const DATE: &str = "Date that the index shows; none without it";
+
+/// The help of `--source`.
+pub(crate) const SOURCE: &str = "\
+Sources of OLD lie in NEW; may be repeated,
+the first that fits counts";
 
 /// The help of `--gcov`.
 pub(crate) const ANNOTATED: &str = "The files are what gcov wrote, and not tracefiles";

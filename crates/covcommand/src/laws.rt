@@ -8,7 +8,7 @@ ghost use Rattle.clap.specs.declared.error.kind.ErrorKind.TheVariants as kind;
 ghost use Rattle.clap.specs.Words.{subcommand_of, first_of};
 ghost use Rattle.covcommand.specs.Asked.{AsksFor, AsksForAll, IsSizeOf, IsStrictnessOf, rows_met};
 ghost use Rattle.covcommand.specs.CommandLine.{covcollect};
-ghost use Rattle.covcommand.specs.declared.asked.Command.TheVariants.{Check, Combine, Extract, Gcov, Merge, Remove, Session, Summary};
+ghost use Rattle.covcommand.specs.declared.asked.Command.TheVariants.{Check, Combine, Extract, Gcov, Html, Merge, Remove, Session, Summary};
 ghost use Rattle.covcommand.specs.declared.asked.Command.TheVariants as commands;
 ghost use Rattle.covcommand.specs.declared.asked.Overview.TheVariants as overviews;
 ghost use Rattle.covcommand.specs.declared.asked.Strictness.TheVariants.{Lenient, Strict};
@@ -205,6 +205,18 @@ pub fn combines_by_their_words()
     ensures no_jobs { fault_of covcollect (codes "covcollect" ∷ codes "combine" ∷ codes "-j" ∷ codes "0" ∷ codes "f" ∷ []) ≡ kind.ValueValidation ∷ [] }
     ensures no_files { fault_of covcollect (codes "covcollect" ∷ codes "combine" ∷ codes "--expect" ∷ codes "0" ∷ codes "f" ∷ []) ≡ kind.ValueValidation ∷ [] }
     ensures lcov2 { fault_of covcollect (codes "covcollect" ∷ codes "combine" ∷ codes "--lcov2" ∷ codes "f" ∷ []) ≡ kind.UnknownArgument ∷ [] }
+{}
+
+/// What `html` asks for: its folder, which has to be named, the texts that are given, where sources lie, in order, and files.
+pub fn shows_by_their_words()
+    ensures few { (folder : String Global) → codes "out" ≡ string_bytes folder
+        → AsksForAll (subcommand_of covcollect (codes "covcollect" ∷ codes "html" ∷ codes "f" ∷ codes "-o" ∷ codes "out" ∷ []))
+        (record { command = Html One 1 (record { includes = []; excludes = [] }) (record { folder = folder; title = None; date = None; sources = [] }) (codes "f" ∷ []); strictness = Lenient; size = Limited; output = None }) }
+    ensures some { (folder : String Global) → codes "out" ≡ string_bytes folder
+        → AsksForAll (subcommand_of covcollect (codes "covcollect" ∷ codes "html" ∷ codes "--output=out" ∷ codes "--title" ∷ codes "t" ∷ codes "--date" ∷ codes "d" ∷ codes "--source" ∷ codes "a=b" ∷ codes "--source" ∷ codes "c=d" ∷ codes "--strict" ∷ codes "f" ∷ codes "g" ∷ []))
+        (record { command = Html One 1 (record { includes = []; excludes = [] }) (record { folder = folder; title = Some (codes "t"); date = Some (codes "d"); sources = codes "a=b" ∷ codes "c=d" ∷ [] }) (codes "f" ∷ codes "g" ∷ []); strictness = Strict; size = Limited; output = None }) }
+    ensures no_folder { fault_of covcollect (codes "covcollect" ∷ codes "html" ∷ codes "f" ∷ []) ≡ kind.MissingRequiredArgument ∷ [] }
+    ensures json { fault_of covcollect (codes "covcollect" ∷ codes "html" ∷ codes "--json" ∷ codes "-o" ∷ codes "out" ∷ codes "f" ∷ []) ≡ kind.UnknownArgument ∷ [] }
 {}
 
 /// Rejected command lines, with clap's kind of error for each. The program has the option `--version`, but its subcommands don't.

@@ -22,22 +22,23 @@ mod combining;
 mod described;
 mod fault;
 mod help;
+mod html;
 pub mod laws;
 mod names;
 mod parsing;
 mod word;
 
 pub use asked::{
-    Asked, CombineOptions, Command, Limits, Overview, SourceFilter, Strictness, TextFormat,
-    TextSize, TotalsForm,
+    Asked, CombineOptions, Command, Limits, Overview, PageOptions, SourceFilter, Strictness,
+    TextFormat, TextSize, TotalsForm,
 };
 pub use covdata::LcovVersion;
 pub use fault::CommandFault;
 pub use help::VERSION;
 pub use laws::{
     calls_are_refused, calls_are_taken, checks_by_their_words, combines_by_their_words,
-    filters_by_their_words, large_by_their_words, outputs_by_their_words, strict_by_their_words,
-    totals_by_their_words,
+    filters_by_their_words, large_by_their_words, outputs_by_their_words, shows_by_their_words,
+    strict_by_their_words, totals_by_their_words,
 };
 pub use names::Names;
 pub use parsing::command;

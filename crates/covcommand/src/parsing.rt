@@ -4,14 +4,14 @@ ghost use Rattle.std.specs.Prelude.{◌≡◌, ◌≢◌, ◌≤◌, ◌++◌, [
 ghost use Rattle.std.specs.String.{string_bytes};
 ghost use Rattle.clap.specs.Words.{rows_of, found_of, subcommand_of, takes, fault_of, first_of};
 ghost use Rattle.covcommand.specs.CommandLine.{covcollect};
-ghost use Rattle.covcommand.specs.Asked.{AreLimitsOf, AsksFor, AsksToCombine, GoesTo, HasSize, HasStrictness, IsFilterOf, IsFormOf, IsFormatOf, IsInBounds, IsLimitOf, IsNumberIfAny, IsNumberOf, IsOutputOf, IsOverviewOf, IsSizeOf, IsStrictnessOf, IsUpToIfAny, IsVersionOf, rows_met, tracefile_and_patterns, values_of};
-ghost use Rattle.covcommand.specs.Found.{Fits, HasCombining, HasFilter, HasFlag, HasJobs, HasNumberIfAny, HasSome, HasTest, TellsFlags};
+ghost use Rattle.covcommand.specs.Asked.{AreLimitsOf, ArePagesOf, AsksFor, AsksToCombine, GoesTo, HasSize, HasStrictness, IsFilterOf, IsFormOf, IsFormatOf, IsInBounds, IsNumberIfAny, IsNumberOf, IsOutputOf, IsOverviewOf, IsSizeOf, IsStrictnessOf, IsTextIfAny, IsUpToIfAny, IsVersionOf, rows_met, tracefile_and_patterns, values_of};
+ghost use Rattle.covcommand.specs.Found.{Fits, HasCombining, HasFilter, HasFlag, HasFolder, HasJobs, HasNumberIfAny, HasSome, HasTest, TellsFlags};
 ghost use Rattle.covcommand.specs.Fault.{IsFaultAmong};
 ghost use Rattle.covcommand.specs.declared.fault.CommandFault.TheVariants as faults;
 
 use crate::asked::{
-    Asked, CombineOptions, Command, Limits, Overview, SourceFilter, Strictness, TextFormat,
-    TextSize, TotalsForm,
+    Asked, CombineOptions, Command, Limits, Overview, PageOptions, SourceFilter, Strictness,
+    TextFormat, TextSize, TotalsForm,
 };
 use crate::described::described;
 use crate::fault::CommandFault;
@@ -119,7 +119,7 @@ fn size_of(found: &ArgMatches<'_>) -> TextSize
     }
 }
 
-/// Returns the output file of `command`: none for a session and `check`, else the argument of `--output`.
+/// Returns the output file of `command`: none for a session, `check` and `html`, else the argument of `--output`.
 fn output_for(
     alloc: Global,
     command: &Command,
@@ -129,7 +129,7 @@ fn output_for(
     ensures some { OnErr result (first_of (codes "output") (rows_of (found_of found.now)) ≢ None) }
 {
     match command {
-        Command::Session | Command::Check { .. } => Ok(None),
+        Command::Session | Command::Check { .. } | Command::Html { .. } => Ok(None),
         _ => output_of(alloc, found),
     }
 }
@@ -192,7 +192,14 @@ fn command_from(alloc: Global, name: &str, found: &ArgMatches<'_>) -> Result<Com
             jobs: jobs_of(found),
             names: files_of(alloc, found)?,
         }),
-        _ => Ok(Command::Combine(combine_options_of(alloc, found)?)),
+        "combine" => Ok(Command::Combine(combine_options_of(alloc, found)?)),
+        _ => Ok(Command::Html {
+            version: version_of(found),
+            jobs: jobs_of(found),
+            filter: source_filter_of(alloc, found)?,
+            pages: page_options_of(alloc, found)?,
+            names: files_of(alloc, found)?,
+        }),
     }
 }
 
@@ -302,20 +309,42 @@ fn form_of(found: &ArgMatches<'_>) -> TotalsForm
     }
 }
 
+/// How pages are written.
+fn page_options_of(alloc: Global, found: &ArgMatches<'_>) -> Result<PageOptions, Memory>
+    requires { HasFolder (rows_of (found_of found.now)) }
+    ensures { IfOk result (ArePagesOf (rows_of (found_of found.now))) }
+{
+    Ok(PageOptions {
+        folder: folder_of(alloc, found)?,
+        title: text_if_any(alloc, found, "title")?,
+        date: text_if_any(alloc, found, "date")?,
+        sources: patterns_of(alloc, found, "source")?,
+    })
+}
+
+/// The folder for pages.
+fn folder_of(alloc: Global, found: &ArgMatches<'_>) -> Result<String, Memory>
+    requires { HasFolder (rows_of (found_of found.now)) }
+    ensures { IfOk result (λ folder. first_of (codes "output") (rows_of (found_of found.now)) ≡ Some (string_bytes folder)) }
+{
+    let folder = found.get_str("output").unwrap();
+    Ok(String::from_str(alloc, folder)?)
+}
+
 /// The arguments of `--fail-under-..`.
 fn limits_of(alloc: Global, found: &ArgMatches<'_>) -> Result<Limits, Memory>
     ensures { IfOk result (AreLimitsOf (rows_of (found_of found.now))) }
 {
     Ok(Limits {
-        lines: limit_of(alloc, found, "fail-under-lines")?,
-        functions: limit_of(alloc, found, "fail-under-functions")?,
-        branches: limit_of(alloc, found, "fail-under-branches")?,
+        lines: text_if_any(alloc, found, "fail-under-lines")?,
+        functions: text_if_any(alloc, found, "fail-under-functions")?,
+        branches: text_if_any(alloc, found, "fail-under-branches")?,
     })
 }
 
-/// Returns the argument of the threshold option `id`, or `None` without the option.
-fn limit_of(alloc: Global, found: &ArgMatches<'_>, id: &str) -> Result<Option<Bytes>, Memory>
-    ensures limit { IfOk result (IsLimitOf id.now (rows_of (found_of found.now))) }
+/// Returns the argument of the option `id`, or `None` without the option.
+fn text_if_any(alloc: Global, found: &ArgMatches<'_>, id: &str) -> Result<Option<Bytes>, Memory>
+    ensures text { IfOk result (IsTextIfAny id.now (rows_of (found_of found.now))) }
     ensures some { OnErr result (first_of id.now (rows_of (found_of found.now)) ≢ None) }
 {
     match found.get_str(id) {

@@ -4,7 +4,7 @@
 //! proof. Functions append to a text and panic if memory runs out: each `?` would have to drop the text.
 
 use covcommand::{
-    Asked, CombineOptions, Command, CommandFault, LcovVersion, Limits, Names, Overview,
+    Asked, CombineOptions, Command, CommandFault, LcovVersion, Limits, Names, Overview, PageOptions,
     SourceFilter, Strictness, TextFormat, TextSize, TotalsForm, command,
 };
 use std::alloc::Global;
@@ -162,6 +162,17 @@ fn put_command(rt: &impl Abort, text: &mut String, command: &Command) {
             names,
         } => put_check(rt, text, format, *jobs, names),
         Command::Combine(options) => put_combine(rt, text, options),
+        Command::Html {
+            version,
+            jobs,
+            filter,
+            pages,
+            names,
+        } => {
+            put_inputs(rt, text, "html", version, *jobs, filter);
+            put_pages(rt, text, pages);
+            put_names(rt, text, names);
+        }
     }
 }
 
@@ -191,6 +202,18 @@ fn overview_word(overview: &Overview) -> &'static str {
         Overview::Summary => "",
         Overview::List => " list",
     }
+}
+
+/// Appends the folder for pages, their texts, and where source files lie.
+fn put_pages(rt: &impl Abort, text: &mut String, pages: &PageOptions) {
+    put_marked(rt, text, " >[", pages.folder.as_str());
+    if let Some(title) = &pages.title {
+        put_limit(rt, text, " title(", title.get());
+    }
+    if let Some(date) = &pages.date {
+        put_limit(rt, text, " date(", date.get());
+    }
+    put_each(rt, text, " source[", &pages.sources);
 }
 
 /// Appends `word`, in parentheses the LCOV version and the number of jobs, and then the source filter.
@@ -270,7 +293,7 @@ fn put_limits(rt: &impl Abort, text: &mut String, limits: &Limits) {
     }
 }
 
-/// Appends a threshold after `mark` and before a closing parenthesis.
+/// Appends a threshold, or another text, after `mark` and before a closing parenthesis.
 fn put_limit(rt: &impl Abort, text: &mut String, mark: &str, limit: &[u8]) {
     put(rt, text, mark);
     put(rt, text, text_of(limit));

@@ -53,6 +53,12 @@ covcollect combine --expect 1048577 a.info => 2 2 error: invalid value '1048577'
 covcollect combine -q -q a.info => 2 2 error: the argument '--quiet' cannot be used multiple times
 covcollect combine --lcov2 a.info => 2 2 error: unexpected argument '--lcov2' found
 
+# Pages: the folder has to be named.
+covcollect html -o out a.info => html (1 1) >[out] [a.info]
+covcollect html b.info a.info --output=out --lcov2 -j 2 --include '*.c' => html (2 2) +[*.c] >[out] [b.info] [a.info]
+covcollect html --title t --date= --source a=b --source c -o out --strict --large a.info => html (1 1) >[out] title(t) date() source[a=b] source[c] [a.info] strict large
+covcollect html -o out -o out a.info => 2 2 error: the argument '--output <DIR>' cannot be used multiple times
+
 # The number of jobs, from 1 to 64.
 covcollect merge --jobs 1 a.info => merge (1 1) [a.info]
 covcollect merge --jobs 64 a.info => merge (1 64) [a.info]

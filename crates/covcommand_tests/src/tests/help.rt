@@ -6,8 +6,8 @@ use std::process::Abort;
 use std::test::*;
 
 /// Each call that requests help, with the number of examples in the help text.
-const HELPS: [(&str, usize); 9] = [
-    ("covcollect --help", 5),
+const HELPS: [(&str, usize); 10] = [
+    ("covcollect --help", 6),
     ("covcollect merge --help", 6),
     ("covcollect summary --help", 4),
     ("covcollect list --help", 3),
@@ -16,6 +16,7 @@ const HELPS: [(&str, usize); 9] = [
     ("covcollect gcov --help", 1),
     ("covcollect check --help", 4),
     ("covcollect combine --help", 4),
+    ("covcollect html --help", 3),
 ];
 
 /// Each example call in the help texts is valid, and is parsed as the subcommand that it names.
@@ -62,10 +63,10 @@ fn example_in(line: &str) -> Option<&str> {
 }
 
 /// Returns what comes after the program's name in a line of help with an example. Such a line is indented, and only a call of lcov
-/// may come before the program's name.
+/// or genhtml may come before the program's name.
 fn example_line(line: &str) -> Option<&str> {
     let (before, call) = line.strip_prefix("  ")?.split_once("covcollect ")?;
-    if before.is_empty() || before.starts_with("lcov ") {
+    if before.is_empty() || before.starts_with("lcov ") || before.starts_with("genhtml ") {
         Some(call)
     } else {
         None

@@ -10,4 +10,5 @@ returns c =
     let with_remove = c.with-removing.ensures _ line.remove with_extract c.remove.ensures in
     let with_gcov = c.with-converting.ensures _ line.gcov with_remove c.gcov.ensures in
     let with_check = c.with-checking.ensures _ line.check with_gcov c.check.ensures in
-    c.with.ensures _ line.combine with_check c.combine.ensures
+    let with_combine = c.with-combining.ensures _ line.combine with_check c.combine.ensures in
+    c.with.ensures _ line.html with_combine c.html.ensures

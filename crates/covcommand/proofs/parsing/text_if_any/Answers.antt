@@ -2,15 +2,15 @@ use Rattle.std.proofs.Common.{◌∙◌, Some, sym, ap, option_map}
 use Rattle.clap.specs.Words.{found_of}
 use Rattle.clap.proofs.WalkLemmas.{first_value-rows}
 use Rattle.covcommand.proofs.Told.{at_err, is_some}
-use Rattle.covcommand.proofs.parsing.limit_of.Goals as goal
+use Rattle.covcommand.proofs.parsing.text_if_any.Goals as goal
 
-pub returns-in_ok-of-in-Some-clause-limit : goal.returns-in_ok-of-in-Some-clause-limit
-returns-in_ok-of-in-Some-clause-limit c =
+pub returns-in_ok-of-in-Some-clause-text : goal.returns-in_ok-of-in-Some-clause-text
+returns-in_ok-of-in-Some-clause-text c =
     sym (first_value-rows (found_of c.args.found.now) c.args.id.now) ∙ sym c.get_str.ensures
     ∙ ap (option_map (λ s. s.now)) c.in-Some.is ∙ ap (λ t. Some t) (sym (c.in_ok-of-in-Some.ensures ∙ c.as_bytes.ensures.value))
 
-pub returns-in-None-clause-limit : goal.returns-in-None-clause-limit
-returns-in-None-clause-limit c =
+pub returns-in-None-clause-text : goal.returns-in-None-clause-text
+returns-in-None-clause-text c =
     sym (first_value-rows (found_of c.args.found.now) c.args.id.now) ∙ sym c.get_str.ensures
     ∙ ap (option_map (λ s. s.now)) c.in-None.is
 
