@@ -1,6 +1,8 @@
 -- The files that a call writes.
-use Rattle.std.specs.Prelude.{◌≡◌, ℕ, suc, List, [], ◌∷◌, ◌++◌, Bool, ◌||◌, if◌then◌else◌, Option, None, Some, codes}
+use Rattle.std.specs.Prelude.{◌≡◌, ℕ, suc, List, [], ◌∷◌, ◌++◌, Bool, ◌||◌, if◌then◌else◌, Option, None, Some, codes, flat_map, map}
 use Rattle.std.specs.Str.{bytes_eq}
+use Rattle.covworld.specs.declared.folder_writer.FolderFault.{FolderFault}
+use Rattle.covworld.specs.declared.folder_writer.FolderFault.TheVariants as folder_faults
 use Rattle.covworld.specs.declared.output_folder.OutputFault.{OutputFault}
 use Rattle.covworld.specs.declared.output_folder.OutputFault.TheVariants.{Failed, Memory}
 
@@ -37,15 +39,54 @@ IsWritten name text files after =
     Finishes name text files.finished after.finished × AddsName name files.names after.names × (after.begun ≡ files.begun)
     × (after.failed ≡ files.failed)
 
--- a file that was just begun has no bytes. Nothing is said if the finished files aren't known
-abbrev pub IsEmptyIfKnown : (finished : Option (List (List ℕ × List ℕ))) → (written : Option (List ℕ)) → Type 0
+-- a file that was just begun has no bytes, and a folder no files. Nothing is said if the finished files aren't known
+abbrev pub IsEmptyIfKnown : {X : Type 0} → (finished : Option (List (List ℕ × List ℕ))) → (written : Option (List X)) → Type 0
 IsEmptyIfKnown None written = Unit {0}
 IsEmptyIfKnown (Some files) written = written ≡ Some []
+
+-- the name of the file that lists a folder's files
+abbrev pub list_name : List ℕ
+list_name = codes "covcollect-files.txt"
+
+-- the names of a folder's files, one on each line
+abbrev pub listing : List (List ℕ × List ℕ) → List ℕ
+listing files = flat_map (λ f. f.0 ++ codes "\n") files
+
+-- the path of a folder's file
+abbrev pub path_in : (folder name : List ℕ) → List ℕ
+path_in folder name = folder ++ codes "/" ++ name
+
+-- the files of a finished folder, as files of the folder that it lies in. Their list is the last one
+abbrev pub files_of_folder : (name : List ℕ) → List (List ℕ × List ℕ) → List (List ℕ × List ℕ)
+files_of_folder name files = map (λ f. (path_in name f.0, f.1)) (files ++ (list_name, listing files) ∷ [])
+
+-- the files of a folder of this name were finished at once, with their list
+abbrev pub FinishesFolder : (name : List ℕ) → (files finished finished_after : Option (List (List ℕ × List ℕ))) → Type 0
+FinishesFolder name None finished after = Unit {0}
+FinishesFolder name (Some files) None after = Unit {0}
+FinishesFolder name (Some files) (Some finished) None = ⊥
+FinishesFolder name (Some files) (Some finished) (Some after) = after ≡ finished ++ files_of_folder name files
+
+-- a folder of this name was finished, with files of these names and their list
+abbrev pub AddsFolder : (name : List ℕ) → (files names names_after : List (List ℕ)) → Type 0
+AddsFolder name files names after = after ≡ names ++ map (path_in name) (files ++ list_name ∷ [])
+
+-- a folder was finished, with this name and these files, and nothing else changed
+abbrev pub IsFolderWritten : (name : List ℕ) → List (List ℕ × List ℕ) → OutputFilesData → OutputFilesData → Type 0
+IsFolderWritten name written files after =
+    FinishesFolder name (Some written) files.finished after.finished × AddsFolder name (map (λ f. f.0) written) files.names after.names
+    × (after.begun ≡ files.begun) × (after.failed ≡ files.failed)
 
 -- a file that can't be begun or finished is counted, unless memory ran out
 abbrev pub CountsFault : OutputFault → (failed failed_after : ℕ) → Type 0
 CountsFault Failed failed after = after ≡ suc failed
 CountsFault Memory failed after = after ≡ failed
+
+-- a folder that can't be begun is counted, unless memory ran out
+abbrev pub CountsFolderFault : FolderFault → (failed failed_after : ℕ) → Type 0
+CountsFolderFault folder_faults.Foreign failed after = after ≡ suc failed
+CountsFolderFault folder_faults.Failed failed after = after ≡ suc failed
+CountsFolderFault folder_faults.Memory failed after = after ≡ failed
 
 -- the name of standard output, which is no file
 abbrev pub is_output : List ℕ → Bool

@@ -7,7 +7,8 @@ ghost use Rattle.covsession.specs.declared.session.fault.SessionFault.TheVariant
 ghost use Rattle.covworld.specs.Printed.{HasPrinted, WritesOn, sink_data};
 
 use crate::block::{BLOCK_BYTES, Block};
-use covreport::{Noted, Printer, Printing, Table};
+use crate::printed_text::PrintedText;
+use covreport::{Noted, Printer};
 use covsession::{SessionFault, put_bytes};
 use covstream::Sink;
 use std::alloc::Global;
@@ -148,8 +149,8 @@ struct Printout<'s, O> {
 }
 
 /// Prints `text` to the sink that `L` names.
-fn printed_at<'s, O: Sink, L: Place, T: Table<Global>>(
-    text: Printing<'_, Global, T>,
+fn printed_at<'s, T: PrintedText, O: Sink, L: Place>(
+    text: T,
     block: Block,
     output: &'s mut O,
 ) -> Printout<'s, O>
@@ -158,7 +159,7 @@ fn printed_at<'s, O: Sink, L: Place, T: Table<Global>>(
     requires few { O.failed_writes output.old < 2 ^ 62 }
     requires empty { block ≡ [] }
     ensures same { result.sink.ghost_name ≡ output.entry.ghost_name }
-    ensures printed { HasPrinted (not result.has_failed) text.entry (sink_data (O.written output.old) (O.failed_writes output.old)) (sink_data (O.written result.sink.now) (O.failed_writes result.sink.now)) }
+    ensures printed { HasPrinted (not result.has_failed) (T.text text.entry) (sink_data (O.written output.old) (O.failed_writes output.old)) (sink_data (O.written result.sink.now) (O.failed_writes result.sink.now)) }
 {
     let mut printer: BlockPrinter<'s, O, L> = BlockPrinter {
         sink: output,
@@ -167,28 +168,28 @@ fn printed_at<'s, O: Sink, L: Place, T: Table<Global>>(
         printed: Noted::none(),
         place: PhantomData,
     };
-    text.print(&mut printer);
+    text.print_to(&mut printer);
     printer.write_out();
     printer.into_printout()
 }
 
 /// Prints `text` in blocks while the text is made, and flushes the output. Never allocates: the caller provides `block`, which is
 /// empty.
-pub(crate) fn print_text<O: Sink, T: Table<Global>>(
-    text: Printing<'_, Global, T>,
+pub(crate) fn print_text<T: PrintedText, O: Sink>(
+    text: T,
     block: Block,
     output: &mut O,
 ) -> Result<(), SessionFault>
     requires few { O.failed_writes output.old < 2 ^ 62 }
     requires empty { block ≡ [] }
-    ensures written { OnOk result (Appends (O.written output.old) (O.written output.new) text.entry) }
+    ensures written { OnOk result (Appends (O.written output.old) (O.written output.new) (T.text text.entry)) }
     ensures sent { OnOk result (O.held output.new ≡ 0) }
     ensures good { OnOk result (O.failed_writes output.new ≡ O.failed_writes output.old) }
     ensures failed { OnErr result (O.failed_writes output.new ≡ suc (O.failed_writes output.old)) }
-    ensures begun { OnErr result (HasBegun (O.written output.old) (O.written output.new) text.entry) }
+    ensures begun { OnErr result (HasBegun (O.written output.old) (O.written output.new) (T.text text.entry)) }
     ensures fault { IfErr result (λ fault. fault ≡ session_faults.Write) }
 {
-    let Printout { sink, has_failed } = printed_at::<O, Brand, T>(text, block, output);
+    let Printout { sink, has_failed } = printed_at::<T, O, Brand>(text, block, output);
     if has_failed {
         return Err(SessionFault::Write);
     }

@@ -6,7 +6,8 @@
 //!
 //! `file_text` reads a whole file. `ReadyText::of` reserves all memory for printing a text. The text then goes in blocks, while it
 //! is made from a store, to the output (`Sinks::print`) or into a file (`write_file`). The file gets its name after its whole text
-//! is written.
+//! is written. A `FolderWriter` writes whole folders too: `write_text` writes the files of a new
+//! one, which gets its name last.
 //!
 //! A sketch, which no test runs: a function that prints a file, or reports that the file can't be read.
 //!
@@ -37,20 +38,26 @@ mod block_printer;
 mod files;
 mod folder;
 mod named_file;
+mod folder_writer;
 mod output_folder;
 mod placed_names;
+mod printed_text;
 mod ready_text;
 mod sinks;
 mod unfinished_file;
+mod unfinished_folder;
 mod world;
 mod written_file;
 
 pub use covreport::Noted;
 pub use files::file_text;
 pub use folder::{Folder, FromFiles, Opened};
+pub use folder_writer::{FolderFault, FolderWriter};
 pub use output_folder::{IntoFiles, OutputFault, OutputFolder};
+pub use printed_text::PrintedText;
 pub use ready_text::ReadyText;
 pub use sinks::Sinks;
 pub use unfinished_file::UnfinishedFile;
+pub use unfinished_folder::UnfinishedFolder;
 pub use world::World;
-pub use written_file::write_file;
+pub use written_file::{write_file, write_text};

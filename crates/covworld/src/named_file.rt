@@ -1,13 +1,16 @@
-//! The calls of std that open, store and rename files. Contracts see the names that these calls were given.
+//! The calls of std that open, store and rename files, and that make and rename folders. Contracts see the names that these calls
+//! were given.
 //!
 //! A function here makes at most one call of std, whose contract doesn't say what happens to files. It is assumed that std does
-//! what the call asks for. No other module can make these types. So a `StoredFile` or a `PlacedFile` shows that the calls before it
-//! succeeded.
+//! what the call asks for. No other module can make these types. So a `StoredFile`, a `PlacedFile` or a `PlacedFolder` shows that
+//! the calls before it succeeded.
 
-ghost use Rattle.std.specs.Prelude.{◌≡◌, IfOk};
+ghost use Rattle.std.specs.Prelude.{◌≡◌, ◌++◌, ◌∷◌, [], IfOk};
 ghost use Rattle.std.specs.String.{string_bytes};
+ghost use Rattle.covworld.specs.OutputFiles.{path_in};
 
 use crate::folder::Opened;
+use crate::placed_names::PlacedNames;
 use covreport::Noted;
 use covstream::{Failed, FromRead, FromWrite, Sink, Source};
 use std::alloc::{AllocError, AllocGlobal, Global};
@@ -159,7 +162,7 @@ impl StoredFile {
     }
 }
 
-/// The path of the file that a name means: the name itself, or what it leads to. Contracts see the name.
+/// The path of the file or folder that a name means: the name itself, or what it leads to. Contracts see the name.
 #[derive(Drop)]
 pub struct Target {
     path: String,
@@ -189,6 +192,16 @@ impl Target {
         })
     }
 
+    /// The path `name` without the slashes at its end.
+    pub(crate) fn trimmed(alloc: Global, name: &str) -> Result<Target, AllocError>
+        ensures { IfOk result (λ target. string_bytes target.name ≡ name.now) }
+    {
+        Ok(Target {
+            path: String::from_str(alloc, name.trim_end_matches('/'))?,
+            name: String::from_str(alloc, name)?,
+        })
+    }
+
     /// The path.
     pub(crate) fn path(&self) -> &str
         ensures { result.now ≡ string_bytes self.now.path }
@@ -210,5 +223,80 @@ impl PlacedFile {
         ensures { result.now ≡ string_bytes self.now.name }
     {
         self.name.as_str()
+    }
+}
+
+/// A new folder of std. Contracts see the path that std made it by, and the names of the files that were stored in it.
+#[derive(Drop)]
+pub(crate) struct CreatedFolder {
+    // Proof only.
+    path: Noted,
+    // Proof only.
+    files: PlacedNames,
+}
+
+impl CreatedFolder {
+    /// Makes a folder. Fails if something has this path.
+    pub(crate) fn create<R: Files>(rt: &R, path: &str) -> io::Result<CreatedFolder>
+        ensures path { IfOk result (λ folder. folder.path.bytes ≡ path.now) }
+        ensures files { IfOk result (λ folder. folder.files.all ≡ []) }
+    {
+        rt.create_dir(path)?;
+        Ok(CreatedFolder {
+            path: Noted::none().and(path.as_bytes()),
+            files: PlacedNames::none(),
+        })
+    }
+
+    /// Notes `_file`, which was stored in this folder, whose path is `path`, under the name `name`.
+    pub(crate) fn note(&mut self, _file: StoredFile, path: &str, name: &str)
+        requires folder { self.old.path.bytes ≡ path.now }
+        requires file { _file.name.bytes ≡ path_in path.now name.now }
+        ensures path { self.new.path ≡ self.old.path }
+        ensures files { self.new.files.all ≡ self.old.files.all ++ name.now ∷ [] }
+    {
+        self.files = self.files.and_name(name);
+    }
+
+    /// Gives the folder, whose path is `from`, the path of `target`.
+    pub(crate) fn rename<R: Files>(
+        self,
+        rt: &R,
+        from: &str,
+        target: Target,
+    ) -> io::Result<PlacedFolder>
+        requires { self.path.bytes ≡ from.now }
+        ensures name { IfOk result (λ placed. placed.name ≡ target.name) }
+        ensures files { IfOk result (λ placed. placed.files ≡ self.files) }
+    {
+        rt.rename(from, target.path.as_str())?;
+        Ok(PlacedFolder {
+            name: target.name,
+            files: self.files,
+        })
+    }
+}
+
+/// The evidence that a folder has its name: std renamed a new folder, in which these files were stored, to what the name means.
+#[derive(Drop)]
+pub struct PlacedFolder {
+    name: String,
+    // Proof only.
+    files: PlacedNames,
+}
+
+impl PlacedFolder {
+    /// The name.
+    pub(crate) fn name(&self) -> &str
+        ensures { result.now ≡ string_bytes self.now.name }
+    {
+        self.name.as_str()
+    }
+
+    /// The names of the folder's files.
+    pub(crate) fn files(&self) -> &PlacedNames
+        ensures { result.now ≡ self.now.files }
+    {
+        &self.files
     }
 }

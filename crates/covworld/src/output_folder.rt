@@ -1,10 +1,13 @@
 //! The directory trait that output files are written to.
 
-ghost use Rattle.std.specs.Prelude.{◌≡◌, ℕ, ◌<◌, ◌^◌, ◌≤◌, List, [], Option, None, Some, suc, option_map, IfOk, IfErr, OnOk, OnErr};
+ghost use Rattle.std.specs.Prelude.{◌≡◌, ℕ, ◌<◌, ◌^◌, ◌≤◌, ◌++◌, List, [], map, Option, None, Some, suc, option_map, IfOk, IfErr, OnOk, OnErr};
+ghost use Rattle.std.specs.String.{string_bytes};
 ghost use Rattle.covworld.specs.Begun.{begun_name};
-ghost use Rattle.covworld.specs.OutputFiles.{AddsName, CountsFault, Finishes, IsEmptyIfKnown, RefusedOnlyIf};
+ghost use Rattle.covworld.specs.OutputFiles.{AddsName, CountsFault, CountsFolderFault, Finishes, IsEmptyIfKnown, RefusedOnlyIf, path_in};
 
 use crate::begun::Begun;
+use crate::folder_writer::FolderFault;
+use crate::named_file::PlacedFolder;
 use crate::placed_names::PlacedNames;
 use crate::unfinished_file::{UnfinishedFile, abandon_file, begin_file, finish_file};
 use covstream::Sink;
@@ -85,10 +88,10 @@ pub trait OutputFolder {
 /// The file system of std as an output folder.
 ///
 /// std's `Files` doesn't specify what a file holds, so `finished` is `None`, and any file may fail to be begun. `names` has a name
-/// only if std opened or renamed a file accordingly (`PlacedFile`).
+/// only if std opened or renamed a file, or the file's folder, accordingly (`PlacedFile`, `PlacedFolder`).
 #[derive(Drop)]
 pub struct IntoFiles<'a, R> {
-    rt: &'a R,
+    pub(crate) rt: &'a R,
     begun: Option<Begun>,
     // Proof only: the names of the finished files.
     names: PlacedNames,
@@ -111,7 +114,7 @@ impl<'a, R: Files + RandomSource + AllocGlobal> IntoFiles<'a, R> {
     }
 
     /// Counts a file that couldn't be written.
-    fn count(&mut self, fault: OutputFault)
+    pub(crate) fn count(&mut self, fault: OutputFault)
         requires { self.old.failed < 2 ^ 63 }
         ensures counted { CountsFault fault self.old.failed self.new.failed }
         ensures begun { self.new.begun ≡ self.old.begun }
@@ -121,6 +124,28 @@ impl<'a, R: Files + RandomSource + AllocGlobal> IntoFiles<'a, R> {
             OutputFault::Failed => self.failed += 1,
             OutputFault::Memory => (),
         }
+    }
+
+    /// Counts a folder that couldn't be begun.
+    pub(crate) fn count_folder(&mut self, fault: FolderFault)
+        requires { self.old.failed < 2 ^ 63 }
+        ensures counted { CountsFolderFault fault self.old.failed self.new.failed }
+        ensures begun { self.new.begun ≡ self.old.begun }
+        ensures names { self.new.names ≡ self.old.names }
+    {
+        match fault {
+            FolderFault::Foreign | FolderFault::Failed => self.failed += 1,
+            FolderFault::Memory => (),
+        }
+    }
+
+    /// Adds the names of a folder's files.
+    pub(crate) fn add_folder(&mut self, folder: PlacedFolder)
+        ensures names { self.new.names.all ≡ self.old.names.all ++ map (path_in (string_bytes folder.name)) folder.files.all }
+        ensures begun { self.new.begun ≡ self.old.begun }
+        ensures failed { self.new.failed ≡ self.old.failed }
+    {
+        self.names = self.names.and_folder(folder);
     }
 }
 

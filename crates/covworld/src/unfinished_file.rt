@@ -1,12 +1,13 @@
 //! A file of std that is written under a temporary name, beside the file that it will replace.
 
-ghost use Rattle.std.specs.Prelude.{◌≡◌, IfOk};
+ghost use Rattle.std.specs.Prelude.{◌≡◌, ◌++◌, IfOk, IsTrue, OnOk};
 ghost use Rattle.std.specs.Option.{ForSome};
 ghost use Rattle.std.specs.String.{string_bytes};
 ghost use Rattle.covworld.specs.Begun.{begun_name};
+ghost use Rattle.covworld.specs.OutputFiles.{path_in};
 
 use crate::begun::Begun;
-use crate::named_file::{Named, PlacedFile, Target, append_named, open_named};
+use crate::named_file::{Named, PlacedFile, StoredFile, Target, append_named, open_named};
 use crate::output_folder::OutputFault;
 use covstream::{Failed, FromWrite, Sink};
 use std::alloc::{AllocError, AllocGlobal};
@@ -81,7 +82,7 @@ fn begin_instead<R: Files + RandomSource + AllocGlobal>(
     ensures named { IfOk result (λ r. begun_name r.1 ≡ name.now) }
 {
     let target = target_of(rt, name)?;
-    let from = name_beside(rt, target.path())?;
+    let from = name_beside(rt, target.path(), ".part")?;
     let file = create(rt, from.as_str(), 0o600)?;
     match keep_rights(rt, from.as_str(), file.get(), old) {
         Ok(()) => Ok((beside(file, from), Begun::Beside(target))),
@@ -130,7 +131,7 @@ fn begin_new<R: Files + RandomSource + AllocGlobal>(
         return Err(OutputFault::Failed);
     }
     let target = Target::of(rt.alloc(), name)?;
-    let from = name_beside(rt, name)?;
+    let from = name_beside(rt, name, ".part")?;
     let file = create(rt, from.as_str(), 0o666)?;
     Ok((beside(file, from), Begun::Beside(target)))
 }
@@ -144,6 +145,29 @@ fn create<R: Files>(rt: &R, name: &str, mode: u32) -> io::Result<Named<R::File>>
     open_named(rt, &how, name)
 }
 
+/// Begins a file called `name` in `folder`, which is new. Fails if the folder has such a file.
+pub(crate) fn begin_inside<R: Files + AllocGlobal>(
+    rt: &R,
+    folder: &str,
+    name: &str,
+) -> Result<UnfinishedFile<R::File>, OutputFault>
+    ensures { IfOk result (λ file. ⟦<UnfinishedFile<R::File> as Sink>⟧.failed_writes file ≡ 0) }
+{
+    let mut from = String::new(rt.alloc());
+    put_path(folder, name, &mut from)?;
+    let file = create(rt, from.as_str(), 0o666)?;
+    Ok(beside(file, from))
+}
+
+/// Appends the path of a folder's file.
+pub(crate) fn put_path(folder: &str, name: &str, path: &mut String) -> Result<(), AllocError>
+    ensures { OnOk result (string_bytes path.new ≡ string_bytes path.old ++ path_in folder.now name.now) }
+{
+    path.push_str(folder)?;
+    path.push_str("/")?;
+    path.push_str(name)
+}
+
 /// A new file without any bytes yet, whose temporary name is `from`.
 fn beside<F: io::Write>(file: Named<F>, from: String) -> UnfinishedFile<F>
     requires { file.name.bytes ≡ string_bytes from }
@@ -155,15 +179,19 @@ fn beside<F: io::Write>(file: Named<F>, from: String) -> UnfinishedFile<F>
     }
 }
 
-/// An unused name in the same directory: `name`, followed by random digits and `.part`.
-fn name_beside<R: RandomSource + AllocGlobal>(rt: &R, name: &str) -> Result<String, OutputFault> {
+/// An unused name in the same directory: `name`, followed by random digits and `ending`.
+pub(crate) fn name_beside<R: RandomSource + AllocGlobal>(
+    rt: &R,
+    name: &str,
+    ending: &str,
+) -> Result<String, OutputFault> {
     let mut random = [0u8; 8];
     rt.fill_bytes(&mut random)?;
     let digits = hex::encode(rt.alloc(), random)?;
     let mut beside = String::from_str(rt.alloc(), name)?;
     beside.push_str(".")?;
     beside.push_str(digits.as_str())?;
-    beside.push_str(".part")?;
+    beside.push_str(ending)?;
     Ok(beside)
 }
 
@@ -226,6 +254,34 @@ fn place<R: Files>(
     ensures { IfOk result (λ placed. placed.name ≡ target.name) }
 {
     file.store()?.rename(rt, from, target)
+}
+
+/// Waits until all bytes of `file` are on the disk, and closes it. Fails for a file that wasn't begun as `name` in `folder`.
+pub(crate) fn store_inside<F: io::Write + OpenFile + Drop>(
+    file: UnfinishedFile<F>,
+    folder: &str,
+    name: &str,
+) -> Result<StoredFile, OutputFault>
+    ensures { IfOk result (λ stored. stored.name.bytes ≡ path_in folder.now name.now) }
+{
+    let UnfinishedFile { file, from } = file;
+    let Some(from) = from else {
+        return Err(OutputFault::Failed);
+    };
+    if !is_path_in(folder, name, from.as_str()) {
+        return Err(OutputFault::Failed);
+    }
+    Ok(file.store()?)
+}
+
+/// Whether `path` is that of the file called `name` in `folder`.
+fn is_path_in(folder: &str, name: &str, path: &str) -> bool
+    ensures { IsTrue result → path.now ≡ path_in folder.now name.now }
+{
+    let Some(rest) = path.strip_prefix(folder) else {
+        return false;
+    };
+    rest.strip_prefix("/") == Some(name)
 }
 
 /// Removes `file`, which isn't finished.
