@@ -6,6 +6,8 @@ pub mod Frame
 pub mod Rows
 pub mod RowView
 pub mod SectionRows
+pub mod Points
+pub mod PointsView
 pub mod SourcePage
 pub mod IndexPage
 pub mod PagesView

@@ -89,7 +89,7 @@ fn put_file<P: Printer>(file: &IndexedFile<'_>, out: &mut P)
 }
 
 /// What follows the last slash of a path, except a slash at its end. The whole path if it has no other slash.
-fn name_of(path: &[u8]) -> &[u8]
+pub fn name_of(path: &[u8]) -> &[u8]
     ensures { result.now ≡ name_of_path path.now }
 {
     let mut name = path;

@@ -1,80 +1,43 @@
-//! Collects the points of a section for its page.
+//! The rows of a file's page.
 
 ghost use Rattle.std.specs.Prelude.{◌≡◌, ◌++◌, IfOk, OnOk, map};
-ghost use Rattle.covtable.specs.ValuesView.{branch_data, function_data, line_data};
+ghost use Rattle.covtable.specs.ValuesView.{branch_data, line_data};
 ghost use Rattle.covhtml.specs.RowView.{row_data};
 ghost use Rattle.covhtml.specs.SectionRows.{behind, branch_rows, branches_after as after_line, branches_from as from_line, front, is_of, line_rows, section_rows};
 
 use crate::rows::Row;
 use covdata::Memory;
-use covtable::{BranchValue, FunctionValue, LineValue, TableSection};
+use covtable::{BranchValue, LineValue};
 use std::alloc::Allocator;
 
-/// Returns the functions of a section, in its order.
+/// Returns the rows of a file's page: a row for each line that has a count or branches. Both lists ascend by line.
 ///
 /// # Errors
 ///
 /// `Memory` if an allocation failed.
-pub fn functions_of<'s, A: Allocator, C: TableSection<'s>>(
+pub fn rows_of<'b, A: Allocator>(
     alloc: A,
-    section: &C,
-) -> Result<Vec<FunctionValue<'s>, A>, Memory>
-    ensures { IfOk result (λ functions. map function_data functions.items ≡ (C.shown section.now).functions) }
-{
-    let mut functions = Vec::new(alloc);
-    for function in section.functions() {
-        functions.push(function)?;
-    }
-    Ok(functions)
-}
-
-/// Returns the branches of a section, in its order.
-///
-/// # Errors
-///
-/// `Memory` if an allocation failed.
-pub fn branches_of<'s, A: Allocator, C: TableSection<'s>>(
-    alloc: A,
-    section: &C,
-) -> Result<Vec<BranchValue, A>, Memory>
-    ensures { IfOk result (λ branches. map branch_data branches.items ≡ (C.shown section.now).branches) }
-{
-    let mut branches = Vec::new(alloc);
-    for branch in section.branches() {
-        branches.push(branch)?;
-    }
-    Ok(branches)
-}
-
-/// Returns the rows of a section's page: a row for each line that has a count or branches. `branches` are those of the section, as
-/// `branches_of` returns them.
-///
-/// # Errors
-///
-/// `Memory` if an allocation failed.
-pub fn rows_of<'s, 'b, A: Allocator, C: TableSection<'s>>(
-    alloc: A,
-    section: &C,
+    lines: &[LineValue<'_>],
     branches: &'b [BranchValue],
 ) -> Result<Vec<Row<'b>, A>, Memory>
-    ensures { IfOk result (λ rows. map row_data rows.items ≡ section_rows (C.shown section.now).lines (map branch_data branches.now)) }
+    ensures { IfOk result (λ rows. map row_data rows.items ≡ section_rows (map line_data lines.now) (map branch_data branches.now)) }
 {
     let mut rows = Vec::new(alloc);
-    push_rows(section, branches, &mut rows)?;
+    push_rows(lines, branches, &mut rows)?;
     Ok(rows)
 }
 
-/// Appends the rows of a section.
-fn push_rows<'s, 'b, A: Allocator, C: TableSection<'s>>(
-    section: &C,
+/// Appends the rows of a file.
+fn push_rows<'b, A: Allocator>(
+    lines: &[LineValue<'_>],
     branches: &'b [BranchValue],
     rows: &mut Vec<Row<'b>, A>,
 ) -> Result<(), Memory>
-    ensures { OnOk result (map row_data rows.new.items ≡ map row_data rows.old.items ++ section_rows (C.shown section.now).lines (map branch_data branches.now)) }
+    ensures { OnOk result (map row_data rows.new.items ≡ map row_data rows.old.items ++ section_rows (map line_data lines.now) (map branch_data branches.now)) }
 {
     let mut rest = branches;
-    for line in section.lines() {
-        push_line_rows(&line, rest, rows)?;
+    for line in lines {
+        push_line_rows(line, rest, rows)?;
         rest = branches_after(line.line, rest);
     }
     push_branch_rows(rest, rows)

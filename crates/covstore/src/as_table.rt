@@ -6,6 +6,7 @@ use crate::plan::Plan;
 use crate::renaming::Renaming;
 use crate::store::Store;
 use covdata::{Memory, Submission};
+use covhtml::{PointsTable, SectionPoints, section_points};
 use covpacked::PackedSubmission;
 use covreport::{
     Choice, PrintedFunction, Printer, Table, list_files, most_functions_in, put_sections,
@@ -103,6 +104,23 @@ impl<A: Allocator + Copy> Table<A> for Store<A> {
         out: &mut P,
     ) {
         put_sections(self.sections(), choice, functions, out);
+    }
+}
+
+impl<A: Allocator + Copy> PointsTable<A> for Store<A> {
+    fn sections_of<'s>(
+        &'s self,
+        alloc: A,
+        file: &[u8],
+    ) -> Result<Vec<SectionPoints<'s, A>, A>, Memory> {
+        let mut sections = Vec::new(alloc);
+        let Some(own) = self.file_sections(alloc, file)? else {
+            return Ok(sections);
+        };
+        for section in own {
+            sections.push(section_points(alloc, &section)?)?;
+        }
+        Ok(sections)
     }
 }
 

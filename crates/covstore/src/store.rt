@@ -14,7 +14,7 @@ ghost use Rattle.covtable.specs.TotalsExchanged.{IsExchange};
 
 use crate::all_files::{count_sections, count_without, drop_from_files, names_with};
 use crate::boxed::Boxed;
-use crate::content::Sections;
+use crate::content::{FileSections, Sections};
 use crate::file::File;
 use crate::files::Files;
 use crate::path::Path;
@@ -157,7 +157,7 @@ impl<A: Allocator> Model for Store<A> {
 }
 
 impl<A: Allocator + Copy> Store<A> {
-    ghost use Rattle.std.specs.Prelude.{◌≡◌, ◌≢◌, ◌<◌, ℕ, List, ◌++◌, [], ◌∷◌, map, IfOk, IfErr, None, OnOk, OnErr};
+    ghost use Rattle.std.specs.Prelude.{◌≡◌, ◌≢◌, ◌<◌, ℕ, List, ◌++◌, [], ◌∷◌, map, IfOk, IfErr, None, OnOk, OnErr, unwrap_or};
     ghost use Rattle.std.specs.Str.{bytes_eq};
     ghost use Rattle.std.specs.List.{flat_map, list_any};
     ghost use Rattle.covdata.specs.Row.{SubmissionData, rows_of, rows_of_sect};
@@ -174,7 +174,7 @@ impl<A: Allocator + Copy> Store<A> {
     ghost use Rattle.covstore.specs.Renaming.{Copies, HasRoomToCopy, IsMoving, IsRenamingOf, names_with};
     ghost use Rattle.covstore.specs.State.{sections_of, totals_in};
     ghost use Rattle.covtable.specs.Table.{Table, all_rows, clash_at};
-    ghost use Rattle.covtable.specs.Totals.{AreTotals, totals_of};
+    ghost use Rattle.covtable.specs.Totals.{AreTotals, own_sections, totals_of};
     ghost use Rattle.covtable.specs.Without.{sections_of_test, without_test};
 
     /// Returns an empty store. Never allocates.
@@ -484,6 +484,21 @@ impl<A: Allocator + Copy> Store<A> {
         ensures { result ≡ files_with_totals self.now.sections }
     {
         Files::of(self.files.iter())
+    }
+
+    /// Returns an iterator over the sections of `file`, ascending by test, or `None` if no submission has the file.
+    pub(crate) fn file_sections(
+        &self,
+        alloc: A,
+        file: &[u8],
+    ) -> Result<Option<FileSections<'_, A>>, Memory>
+        ensures { IfOk result (λ sections. unwrap_or sections [] ≡ own_sections file.now self.now.sections) }
+    {
+        let path = Path::from_slice(alloc, file)?;
+        match self.files.get_key_value(&path) {
+            Some((name, found)) => Ok(Some(found.get().sections(name.as_slice()))),
+            None => Ok(None),
+        }
     }
 
     /// Returns an iterator over the sections, ascending by file and then by test. A section is a test of a file, with at least one
