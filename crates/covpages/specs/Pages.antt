@@ -1,0 +1,139 @@
+-- The folder that `html` writes.
+use Rattle.std.specs.Prelude.{◌≡◌, ◌⊎◌, ⊥, ℕ, ◌+◌, Bool, true, false, not, ◌==◌, Option, Some, List, [], ◌∷◌, ◌++◌, length, codes, filter, unwrap_or}
+use Rattle.covcommand.specs.declared.asked.Strictness.{Strictness}
+use Rattle.covcommand.specs.declared.asked.Strictness.TheVariants.{Lenient, Strict}
+use Rattle.covhtml.specs.IndexPage.{IndexedFileData, index_page}
+use Rattle.covhtml.specs.PageName.{page_name}
+use Rattle.covhtml.specs.Points.{PointsData, points_of}
+use Rattle.covhtml.specs.Rows.{RowData}
+use Rattle.covhtml.specs.SectionRows.{section_rows}
+use Rattle.covhtml.specs.SourcePage.{source_page}
+use Rattle.covhtml.specs.declared.style_sheet.TheConstants.{STYLE}
+use Rattle.covpages.specs.Directories.{directories_of}
+use Rattle.covpages.specs.Sources.{SourceData, IsSource, complaint_of, located_by, rules_of, shown_text}
+use Rattle.covpages.specs.declared.fault.PagesFault.{PagesFault}
+use Rattle.covpages.specs.declared.fault.PagesFault.TheVariants as faults
+use Rattle.covreport.specs.Choice.{ChoiceData, is_chosen}
+use Rattle.covtable.specs.Content.{SectionData}
+use Rattle.covtable.specs.Files.{FileTotalsData, files_with_totals}
+use Rattle.covtable.specs.Totals.{own_sections, totals_of}
+use Rattle.covtable.specs.declared.totals.Totals.{Totals}
+use Rattle.covworld.specs.Folder.{FolderData}
+use Rattle.covworld.specs.OutputFiles.{IsFolderWritten, OutputFilesData}
+use Rattle.covworld.specs.declared.folder_writer.FolderFault.{FolderFault}
+use Rattle.covworld.specs.declared.folder_writer.FolderFault.TheVariants as folder_faults
+use Rattle.covworld.specs.declared.output_folder.OutputFault.{OutputFault}
+use Rattle.covworld.specs.declared.output_folder.OutputFault.TheVariants as output_faults
+
+-- what pages are written of, and how: the name of the folder, the texts of the options, the rules for where source files lie, the source
+-- files that are shown, and the folder that has them
+pub record PagesWorkData : Type 1 where
+  pub folder : List ℕ
+  pub title : Option (List ℕ)
+  pub date : Option (List ℕ)
+  pub rules : List (List ℕ)
+  pub choice : ChoiceData
+  pub strictness : Strictness
+  pub sources : FolderData
+
+-- the source files that are shown, each with its totals
+abbrev pub files_shown : PagesWorkData → List SectionData → List FileTotalsData
+files_shown work sections = filter (λ f. is_chosen work.choice f.path) (files_with_totals sections)
+
+-- the points of a source file over all tests
+abbrev pub points_at : List SectionData → (path : List ℕ) → PointsData
+points_at sections path = points_of (own_sections path sections)
+
+abbrev pub rows_at : List SectionData → (path : List ℕ) → List RowData
+rows_at sections path = section_rows (points_at sections path).lines (points_at sections path).branches
+
+-- where a source file lies
+abbrev pub place_of : PagesWorkData → (path : List ℕ) → List ℕ
+place_of work path = located_by (rules_of work.rules) path
+
+-- the page of a source file, of whose text this came
+abbrev pub page_of : List SectionData → FileTotalsData → SourceData → List ℕ
+page_of sections file source = source_page (record {
+  path = file.path;
+  totals = file.totals;
+  functions = (points_at sections file.path).functions;
+  rows = rows_at sections file.path;
+  source = shown_text source;
+})
+
+-- what came of each source file
+abbrev pub AreSources : PagesWorkData → List SectionData → List FileTotalsData → List SourceData → Type 0
+AreSources work sections [] [] = Unit {0}
+AreSources work sections [] (source ∷ sources) = ⊥
+AreSources work sections (file ∷ files) [] = ⊥
+AreSources work sections (file ∷ files) (source ∷ sources) =
+    IsSource work.sources (place_of work file.path) (rows_at sections file.path) source × AreSources work sections files sources
+
+-- the page of each source file, under a name of its own. `number`: how many pages come before
+abbrev pub pages_after : (number : ℕ) → List SectionData → List FileTotalsData → List SourceData → List (List ℕ × List ℕ)
+pages_after number sections [] sources = []
+pages_after number sections (file ∷ files) [] = []
+pages_after number sections (file ∷ files) (source ∷ sources) =
+    (page_name (number + 1) file.path, page_of sections file source) ∷ pages_after (number + 1) sections files sources
+
+-- the row of each source file in the index
+abbrev pub indexed_after : (number : ℕ) → List FileTotalsData → List IndexedFileData
+indexed_after number [] = []
+indexed_after number (file ∷ files) =
+    record { page = page_name (number + 1) file.path; path = file.path; totals = file.totals } ∷ indexed_after (number + 1) files
+
+-- the index of these files, with the texts of the options
+abbrev pub index_with : (title date : Option (List ℕ)) → Totals → List IndexedFileData → List ℕ
+index_with title date totals files = index_page (record {
+  title = unwrap_or title (codes "Coverage");
+  date = date;
+  totals = totals;
+  directories = directories_of files;
+})
+
+-- the index of the source files that are shown
+abbrev pub index_of : PagesWorkData → List SectionData → List ℕ
+index_of work sections = index_with work.title work.date
+    (totals_of (filter (λ s. is_chosen work.choice s.key.file) sections)) (indexed_after 0 (files_shown work sections))
+
+-- the files of the folder
+abbrev pub files_of : PagesWorkData → List SectionData → List SourceData → List (List ℕ × List ℕ)
+files_of work sections sources =
+    (codes "style.css", STYLE.now) ∷ pages_after 0 sections (files_shown work sections) sources ++ (codes "index.html", index_of work sections) ∷ []
+
+-- the lines about source files whose texts aren't shown
+abbrev pub complaints_of : PagesWorkData → List FileTotalsData → List SourceData → List ℕ
+complaints_of work [] sources = []
+complaints_of work (file ∷ files) [] = []
+complaints_of work (file ∷ files) (source ∷ sources) =
+    complaint_of work.strictness (place_of work file.path) source ++ complaints_of work files sources
+
+-- a call that isn't strict is never refused, and a strict one if there are such lines
+abbrev pub is_refused : Strictness → (complaints : List ℕ) → Bool
+is_refused Lenient complaints = false
+is_refused Strict complaints = not (length complaints == 0)
+
+-- the folder was written whole, with these warnings
+abbrev pub IsWritten : PagesWorkData → List SectionData → (files files_after : OutputFilesData) → (warnings : List ℕ) → Type 0
+IsWritten work sections files after warnings =
+    (sources : List SourceData) × AreSources work sections (files_shown work sections) sources
+    × (warnings ≡ complaints_of work (files_shown work sections) sources) × (is_refused work.strictness warnings ≡ false)
+    × IsFolderWritten work.folder (files_of work sections sources) files after
+
+-- why nothing was written: a strict call is refused for the lines about source files
+abbrev pub IsPagesFault : PagesWorkData → List SectionData → PagesFault → Type 0
+IsPagesFault work sections faults.Foreign = Unit {0}
+IsPagesFault work sections faults.Unwritten = Unit {0}
+IsPagesFault work sections (faults.Refused lines) =
+    (is_refused work.strictness lines ≡ true) × ((sources : List SourceData) × AreSources work sections (files_shown work sections) sources
+    × (lines ≡ complaints_of work (files_shown work sections) sources))
+IsPagesFault work sections faults.Memory = Unit {0}
+
+abbrev pub of_output : OutputFault → PagesFault
+of_output output_faults.Failed = faults.Unwritten
+of_output output_faults.Memory = faults.Memory
+
+abbrev pub of_folder : FolderFault → PagesFault
+of_folder folder_faults.Foreign = faults.Foreign
+of_folder folder_faults.Failed = faults.Unwritten
+of_folder folder_faults.Memory = faults.Memory

@@ -1,0 +1,47 @@
+-- Values of the code, seen as plain data.
+use Rattle.std.specs.Prelude.{ℕ, List, map}
+use Rattle.std.specs.String.{string_bytes}
+use Rattle.covhtml.specs.IndexPage.{IndexedFileData, index_page}
+use Rattle.covhtml.specs.PagesView.{index_page_data, source_page_data}
+use Rattle.covhtml.specs.SourcePage.{source_page}
+use Rattle.covhtml.specs.declared.style_sheet.TheConstants.{STYLE}
+use Rattle.covpages.specs.Pages.{PagesWorkData}
+use Rattle.covpages.specs.Steps.{ProgressData}
+use Rattle.covpages.specs.declared.writing.Progress.{Progress}
+use Rattle.covpages.specs.Sources.{SourceData, Text, Unreadable, Short}
+use Rattle.covpages.specs.declared.entries.Entry.{Entry}
+use Rattle.covpages.specs.declared.page.Page.{Page}
+use Rattle.covpages.specs.declared.page.Page.TheVariants as pages
+use Rattle.covpages.specs.declared.source_text.Source.{Source}
+use Rattle.covpages.specs.declared.source_text.Source.TheVariants as sources
+use Rattle.covpages.specs.declared.writing.PagesWork.{PagesWork}
+use Rattle.covreport.specs.ChoiceView.{choice_data}
+use Rattle.covworld.specs.Folder.{FolderData}
+
+abbrev pub page_text : Page → List ℕ
+page_text (pages.Index page) = index_page (index_page_data page)
+page_text (pages.Source page) = source_page (source_page_data page)
+page_text pages.Style = STYLE.now
+
+abbrev pub source_data : Source → SourceData
+source_data (sources.Text text) = Text text
+source_data sources.Unreadable = Unreadable
+source_data sources.Short = Short
+
+abbrev pub entry_data : Entry → IndexedFileData
+entry_data entry = record { page = entry.page; path = entry.path.now; totals = entry.totals }
+
+abbrev pub progress_data : Progress → ProgressData
+progress_data progress = record { entries = map entry_data progress.entries.items; complaints = progress.complaints }
+
+-- `sources`: the folder that has the source files, as data
+abbrev pub work_data : {F T : Type 0} → (sources : FolderData) → PagesWork F T → PagesWorkData
+work_data sources work = record {
+  folder = string_bytes work.options.now.folder;
+  title = work.options.now.title;
+  date = work.options.now.date;
+  rules = work.options.now.sources;
+  choice = choice_data work.choice.now;
+  strictness = work.strictness;
+  sources = sources;
+}

@@ -1,0 +1,103 @@
+//! The source files that the index lists, by their directories.
+
+ghost use Rattle.std.specs.Prelude.{◌≡◌, ◌++◌, ◌≤◌, length, take, IfOk, OnOk, map};
+ghost use Rattle.covhtml.specs.PagesView.{directory_data, indexed_file_data};
+ghost use Rattle.covpages.specs.Directories.{count_in as count_in_directory, directories_of, directory_of as directory_of_path, runs_of, sorted_files, totals_together};
+ghost use Rattle.covpages.specs.View.{entry_data};
+ghost use Rattle.covtable.specs.Totals.{AreTotals};
+
+use covdata::{Bytes, Memory};
+use covhtml::{Directory, IndexedFile, name_of};
+use covtable::Totals;
+use std::alloc::Global;
+
+/// A source file that has a page.
+#[derive(Drop)]
+pub(crate) struct Entry<'s> {
+    /// The name of the page.
+    pub(crate) page: Bytes,
+    /// The source file's path.
+    pub(crate) path: &'s [u8],
+    /// The file's totals.
+    pub(crate) totals: Totals,
+    ghost are_totals: { AreTotals totals },
+}
+
+/// The files of the index, by their directories, ascending. The files of a directory keep their order.
+pub(crate) fn indexed<'e>(
+    alloc: Global,
+    entries: &'e [Entry<'e>],
+) -> Result<Vec<IndexedFile<'e>>, Memory>
+    ensures { IfOk result (λ files. map indexed_file_data files.items ≡ sorted_files (map entry_data entries.now)) }
+{
+    let mut files = Vec::new(alloc);
+    for entry in entries {
+        files.push(IndexedFile {
+            page: entry.page.get(),
+            path: entry.path,
+            totals: entry.totals,
+        })?;
+    }
+    files.sort_by(|one, other| directory_of(one.path).cmp(&directory_of(other.path)))?;
+    Ok(files)
+}
+
+/// The directories of files that are in the order of their directories.
+pub(crate) fn directories<'e>(
+    alloc: Global,
+    files: &'e [IndexedFile<'e>],
+) -> Result<Vec<Directory<'e>>, Memory>
+    requires fits { AreTotals (totals_together (map indexed_file_data files.now)) }
+    ensures { IfOk result (λ directories. map directory_data directories.items ≡ runs_of (map indexed_file_data files.now)) }
+{
+    let mut directories = Vec::new(alloc);
+    let mut rest = files;
+    while let Some(first) = rest.first() {
+        let path = directory_of(first.path);
+        let (own, others) = rest.split_at(count_in(path, rest));
+        directories.push(Directory {
+            path,
+            totals: totals_of(own),
+            files: own,
+        })?;
+        rest = others;
+    }
+    Ok(directories)
+}
+
+/// How many files come before the first one that isn't in this directory.
+fn count_in(directory: &[u8], files: &[IndexedFile<'_>]) -> usize
+    ensures count { result ≡ count_in_directory directory.now (map indexed_file_data files.now) }
+    ensures within { result ≤ length files.now }
+{
+    for (place, file) in files.iter().enumerate() {
+        if directory_of(file.path) != directory {
+            return place;
+        }
+    }
+    files.len()
+}
+
+/// What files have together.
+fn totals_of(files: &[IndexedFile<'_>]) -> Totals
+    requires { AreTotals (totals_together (map indexed_file_data files.now)) }
+    ensures { result ≡ totals_together (map indexed_file_data files.now) }
+{
+    let mut totals = Totals::none();
+    for file in files {
+        totals = totals.plus(file.totals);
+    }
+    totals
+}
+
+/// The directory of a path: what comes before the slash before its name, `/` if nothing does, and `.` if there is no such slash.
+fn directory_of(path: &[u8]) -> &[u8]
+    ensures { result.now ≡ directory_of_path path.now }
+{
+    let front = &path[..path.len() - name_of(path).len()];
+    match front.split_last() {
+        None => b".",
+        Some((_, directory)) if directory.is_empty() => b"/",
+        Some((_, directory)) => directory,
+    }
+}

@@ -1,0 +1,69 @@
+//! Why pages can't be written.
+
+use covdata::{Bytes, Memory};
+use covworld::{FolderFault, OutputFault};
+use std::alloc::AllocError;
+
+/// Why pages can't be written. The older folder, if there is one, is as it was.
+#[derive(Drop)]
+pub enum PagesFault {
+    /// The folder has files that `html` didn't write.
+    Foreign,
+    /// The folder, or a file of it, can't be written.
+    Unwritten,
+    /// The call is strict, and these are the lines about source files that can't be shown.
+    Refused(Bytes),
+    /// An allocation failed.
+    Memory,
+}
+
+impl From<Memory> for PagesFault {
+    ghost use Rattle.std.specs.Prelude.{◌≡◌};
+    ghost use Rattle.covpages.specs.declared.fault.PagesFault.TheVariants as faults;
+
+    ghost from_gives = { λ _ f. f ≡ faults.Memory };
+
+    fn from(_refused: Memory) -> PagesFault {
+        PagesFault::Memory
+    }
+}
+
+impl From<AllocError> for PagesFault {
+    ghost use Rattle.std.specs.Prelude.{◌≡◌};
+    ghost use Rattle.covpages.specs.declared.fault.PagesFault.TheVariants as faults;
+
+    ghost from_gives = { λ _ f. f ≡ faults.Memory };
+
+    fn from(_refused: AllocError) -> PagesFault {
+        PagesFault::Memory
+    }
+}
+
+impl From<OutputFault> for PagesFault {
+    ghost use Rattle.std.specs.Prelude.{◌≡◌};
+    ghost use Rattle.covpages.specs.Pages.{of_output};
+
+    ghost from_gives = { λ fault f. f ≡ of_output fault };
+
+    fn from(fault: OutputFault) -> PagesFault {
+        match fault {
+            OutputFault::Failed => PagesFault::Unwritten,
+            OutputFault::Memory => PagesFault::Memory,
+        }
+    }
+}
+
+impl From<FolderFault> for PagesFault {
+    ghost use Rattle.std.specs.Prelude.{◌≡◌};
+    ghost use Rattle.covpages.specs.Pages.{of_folder};
+
+    ghost from_gives = { λ fault f. f ≡ of_folder fault };
+
+    fn from(fault: FolderFault) -> PagesFault {
+        match fault {
+            FolderFault::Foreign => PagesFault::Foreign,
+            FolderFault::Failed => PagesFault::Unwritten,
+            FolderFault::Memory => PagesFault::Memory,
+        }
+    }
+}

@@ -1,0 +1,65 @@
+//! Where source files lie.
+
+ghost use Rattle.std.specs.Prelude.{◌≡◌, ◌++◌, IfOk, map, option_map};
+ghost use Rattle.std.specs.String.{string_bytes};
+ghost use Rattle.covpages.specs.Sources.{located_by, located_in, rest_under, rule_of, rules_of};
+
+use covdata::{Bytes, Memory};
+use std::alloc::Global;
+
+/// A rule for where source files lie: those under `old` lie under `new`.
+#[derive(Clone, Copy)]
+pub struct SourceRule<'a> {
+    old: &'a [u8],
+    new: &'a [u8],
+}
+
+impl<'a> SourceRule<'a> {
+    /// The rule that `word` gives, as `OLD=NEW`, or `None` if the word has no `=`. `old` ends before the first `=`.
+    pub fn of(word: &'a str) -> Option<SourceRule<'a>>
+        ensures { option_map (λ rule. (rule.old.now, rule.new.now)) result ≡ rule_of word.now }
+    {
+        let (old, new) = word.split_once('=')?;
+        Some(SourceRule {
+            old: old.as_bytes(),
+            new: new.as_bytes(),
+        })
+    }
+
+    /// What follows `old` in `path`, if `old` is the path or ends at a slash in it.
+    fn rest_of<'p>(&self, path: &'p [u8]) -> Option<&'p [u8]>
+        ensures { option_map (λ rest. rest.now) result ≡ rest_under self.now.old.now path.now }
+    {
+        let rest = path.strip_prefix(self.old)?;
+        let is_whole = rest.is_empty() || rest.starts_with(b"/") || self.old.ends_with(b"/");
+        if is_whole { Some(rest) } else { None }
+    }
+}
+
+/// Where the source file of this `path` lies, by the first rule that fits. `words` are rules, as `SourceRule::of` takes them. Any other
+/// word fits no path.
+pub(crate) fn located(alloc: Global, words: &[String], path: &[u8]) -> Result<Bytes, Memory>
+    ensures { IfOk result (λ name. name ≡ located_by (rules_of (map string_bytes words.now)) path.now) }
+{
+    for word in words {
+        if let Some(name) = located_by_word(alloc, word.as_str(), path)? {
+            return Ok(name);
+        }
+    }
+    Bytes::of(alloc, path)
+}
+
+/// Where the source file of this `path` lies by the rule of `word`, or `None` if the rule doesn't fit.
+fn located_by_word(alloc: Global, word: &str, path: &[u8]) -> Result<Option<Bytes>, Memory>
+    ensures { IfOk result (λ name. name ≡ located_in (rule_of word.now) path.now) }
+{
+    let Some(rule) = SourceRule::of(word) else {
+        return Ok(None);
+    };
+    let Some(rest) = rule.rest_of(path) else {
+        return Ok(None);
+    };
+    let mut name = Bytes::of(alloc, rule.new)?;
+    name.append(rest)?;
+    Ok(Some(name))
+}

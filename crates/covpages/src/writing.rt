@@ -1,0 +1,289 @@
+//! Writes the folder of pages.
+
+ghost use Rattle.std.specs.Prelude.{◌≡◌, ◌<◌, ◌^◌, ◌++◌, [], ◌∷◌, None, IfErr, IfOk, OnErr, OnOk, codes, filter, map, option_map, unwrap_or};
+ghost use Rattle.covhtml.specs.PagesView.{source_page_data};
+ghost use Rattle.covhtml.specs.Points.{points_of};
+ghost use Rattle.covhtml.specs.PointsView.{points_data};
+ghost use Rattle.covhtml.specs.RowView.{row_data};
+ghost use Rattle.covhtml.specs.SourcePage.{source_page};
+ghost use Rattle.covpages.specs.Directories.{totals_together};
+ghost use Rattle.covpages.specs.Pages.{IsPagesFault, IsWritten, files_shown, index_with, is_refused};
+ghost use Rattle.covpages.specs.Sources.{complaint_of, located_by, rules_of, IsSource};
+ghost use Rattle.covpages.specs.Steps.{IsNext, IsReport, IsSoFar};
+ghost use Rattle.covpages.specs.View.{entry_data, progress_data, source_data, work_data};
+ghost use Rattle.covreport.specs.Choice.{is_chosen};
+ghost use Rattle.covreport.specs.ChoiceView.{choice_data};
+ghost use Rattle.covtable.specs.Files.{files_with_totals};
+ghost use Rattle.covtable.specs.Totals.{AreTotals, own_sections, totals_of};
+ghost use Rattle.covtable.specs.ValuesView.{file_totals_data};
+ghost use Rattle.covworld.specs.Folder.{folder_data};
+ghost use Rattle.covworld.specs.OutputFiles.{AddsName, Finishes, output_files};
+
+use crate::entries::{Entry, directories, indexed};
+use crate::fault::PagesFault;
+use crate::page::Page;
+use crate::source_rule::located;
+use crate::source_text::{Source, put_complaint, read_source};
+use covcommand::{PageOptions, Strictness};
+use covdata::{Bytes, Memory};
+use covhtml::{IndexPage, Points, PointsTable, Row, SourcePage, joined, page_name, rows_of};
+use covreport::{Choice, chosen_totals};
+use covtable::FileTotals;
+use covworld::{Folder, FolderWriter, OutputFault, OutputFolder, write_text};
+use std::alloc::Global;
+
+/// The title of an index without `--title`.
+const TITLE: &[u8] = b"Coverage";
+
+/// What pages are written of, and how.
+#[derive(Drop)]
+pub struct PagesWork<'w, F, T> {
+    /// The allocator.
+    pub alloc: Global,
+    /// The folder for the pages, their texts, and where source files lie.
+    pub options: &'w PageOptions,
+    /// The source files that are shown.
+    pub choice: &'w Choice,
+    /// Whether source files whose text can't be shown are refused.
+    pub strictness: Strictness,
+    /// Has the source files.
+    pub sources: &'w F,
+    /// Has the counts.
+    pub table: &'w T,
+}
+
+/// What was written so far: the source files that have a page, and the lines about those whose text isn't shown.
+#[derive(Drop)]
+struct Progress<'s> {
+    entries: Vec<Entry<'s>>,
+    complaints: Bytes,
+}
+
+impl<'s> Progress<'s> {
+    /// Notes a source file that has a page.
+    fn note(&mut self, entry: Entry<'s>) -> Result<(), Memory>
+        ensures entries { OnOk result (map entry_data self.new.entries.items ≡ map entry_data self.old.entries.items ++ entry_data entry ∷ []) }
+        ensures complaints { self.new.complaints ≡ self.old.complaints }
+    {
+        self.entries.push(entry)?;
+        Ok(())
+    }
+}
+
+/// Writes a folder of pages, and returns the warnings. The folder has `index.html`, `style.css`, and a page for each file that is
+/// shown. It replaces an older folder of pages as a whole, at the end. A page has no text if its source file can't be read, or has
+/// fewer lines than the counts: then there is a warning. A strict call is refused for such files.
+pub fn write_pages<F: Folder, T: PointsTable<Global>, P: FolderWriter>(
+    work: &PagesWork<'_, F, T>,
+    files: &mut P,
+) -> Result<Bytes, PagesFault>
+    requires free { P.begun files.old ≡ None }
+    requires few { P.failed files.old < 2 ^ 62 }
+    ensures written { IfOk result (IsWritten (work_data (folder_data F.Folder F.File.Source work.now.sources.now) work.now) (T.shown work.now.table.now).sections (output_files (P.finished files.old) (P.names files.old) (P.begun files.old) (P.failed files.old)) (output_files (P.finished files.new) (P.names files.new) (P.begun files.new) (P.failed files.new))) }
+    ensures refused { IfErr result (IsPagesFault (work_data (folder_data F.Folder F.File.Source work.now.sources.now) work.now) (T.shown work.now.table.now).sections) }
+    ensures same { OnErr result (P.finished files.new ≡ P.finished files.old) }
+    ensures unnamed { OnErr result (P.names files.new ≡ P.names files.old) }
+    ensures none { P.begun files.new ≡ None }
+{
+    let mut report = files.begin_folder(work.options.folder.as_str())?;
+    match write_report(work, &mut report) {
+        Ok(warnings) => {
+            files.finish_folder(report)?;
+            Ok(warnings)
+        }
+        Err(fault) => {
+            files.abandon_folder(report);
+            Err(fault)
+        }
+    }
+}
+
+/// Writes all files of the folder, and returns the warnings.
+fn write_report<F: Folder, T: PointsTable<Global>, D: OutputFolder>(
+    work: &PagesWork<'_, F, T>,
+    report: &mut D,
+) -> Result<Bytes, PagesFault>
+    requires free { D.begun report.old ≡ None }
+    requires few { D.failed report.old < 2 ^ 62 }
+    ensures written { IfOk result (IsReport (work_data (folder_data F.Folder F.File.Source work.now.sources.now) work.now) (T.shown work.now.table.now).sections (output_files (D.finished report.old) (D.names report.old) (D.begun report.old) (D.failed report.old)) (output_files (D.finished report.new) (D.names report.new) (D.begun report.new) (D.failed report.new))) }
+    ensures refused { IfErr result (IsPagesFault (work_data (folder_data F.Folder F.File.Source work.now.sources.now) work.now) (T.shown work.now.table.now).sections) }
+    ensures none { D.begun report.new ≡ None }
+    ensures good { OnOk result (D.failed report.new ≡ D.failed report.old) }
+{
+    write_text(work.alloc, "style.css", Page::Style, report)?;
+    let files = work.table.files(work.alloc)?;
+    let Progress {
+        entries,
+        complaints,
+    } = write_sources(work, files.as_slice(), report)?;
+    if refuses(work.strictness, &complaints) {
+        return Err(PagesFault::Refused(complaints));
+    }
+    write_index(work, entries.as_slice(), report)?;
+    Ok(complaints)
+}
+
+/// Whether a call of this strictness is refused for these lines.
+fn refuses(strictness: Strictness, complaints: &Bytes) -> bool
+    ensures { result ≡ is_refused strictness complaints.now }
+{
+    match strictness {
+        Strictness::Lenient => false,
+        Strictness::Strict => !complaints.get().is_empty(),
+    }
+}
+
+/// Writes the pages of those of `files` that are shown.
+fn write_sources<'s, F: Folder, T: PointsTable<Global>, D: OutputFolder>(
+    work: &PagesWork<'_, F, T>,
+    files: &[FileTotals<'s>],
+    report: &mut D,
+) -> Result<Progress<'s>, PagesFault>
+    requires free { D.begun report.old ≡ None }
+    requires few { D.failed report.old < 2 ^ 62 }
+    requires files { map file_totals_data files.now ≡ files_with_totals (T.shown work.now.table.now).sections }
+    ensures so_far { IfOk result (λ progress. IsSoFar (work_data (folder_data F.Folder F.File.Source work.now.sources.now) work.now) (T.shown work.now.table.now).sections (files_shown (work_data (folder_data F.Folder F.File.Source work.now.sources.now) work.now) (T.shown work.now.table.now).sections) (progress_data progress) (output_files (D.finished report.old) (D.names report.old) (D.begun report.old) (D.failed report.old)) (output_files (D.finished report.new) (D.names report.new) (D.begun report.new) (D.failed report.new))) }
+    ensures none { D.begun report.new ≡ None }
+    ensures good { OnOk result (D.failed report.new ≡ D.failed report.old) }
+{
+    let mut progress = Progress {
+        entries: Vec::new(work.alloc),
+        complaints: Bytes::new(work.alloc),
+    };
+    for file in files {
+        if work.choice.takes(file.path) {
+            write_source(work, *file, &mut progress, report)?;
+        }
+    }
+    Ok(progress)
+}
+
+/// Writes the page of a source file.
+fn write_source<'s, F: Folder, T: PointsTable<Global>, D: OutputFolder>(
+    work: &PagesWork<'_, F, T>,
+    file: FileTotals<'s>,
+    progress: &mut Progress<'s>,
+    report: &mut D,
+) -> Result<(), PagesFault>
+    requires free { D.begun report.old ≡ None }
+    requires few { D.failed report.old < 2 ^ 62 }
+    requires totals { file.totals ≡ totals_of (own_sections file.path.now (T.shown work.now.table.now).sections) }
+    requires bounds { AreTotals file.totals }
+    ensures next { OnOk result (IsNext (work_data (folder_data F.Folder F.File.Source work.now.sources.now) work.now) (T.shown work.now.table.now).sections (file_totals_data file) (progress_data progress.old) (progress_data progress.new) (output_files (D.finished report.old) (D.names report.old) (D.begun report.old) (D.failed report.old)) (output_files (D.finished report.new) (D.names report.new) (D.begun report.new) (D.failed report.new))) }
+    ensures none { D.begun report.new ≡ None }
+    ensures good { OnOk result (D.failed report.new ≡ D.failed report.old) }
+{
+    let number = progress.entries.len() as u64 + 1;
+    let name = page_name(work.alloc, number, file.path)?;
+    let points = points_for(work, file.path)?;
+    let rows = rows_of(work.alloc, points.lines.as_slice(), points.branches.as_slice())?;
+    let source = source_for(work, file.path, rows.as_slice(), &mut progress.complaints)?;
+    let page = SourcePage {
+        path: file.path,
+        totals: file.totals,
+        functions: points.functions.as_slice(),
+        rows: rows.as_slice(),
+        source: source.text(),
+    };
+    write_page(work.alloc, name.get(), page, report)?;
+    progress.note(Entry {
+        page: name,
+        path: file.path,
+        totals: file.totals,
+    })?;
+    Ok(())
+}
+
+/// The points of a source file over all tests.
+fn points_for<'w, F, T: PointsTable<Global>>(
+    work: &PagesWork<'w, F, T>,
+    path: &[u8],
+) -> Result<Points<'w, Global>, Memory>
+    ensures { IfOk result (λ points. points_data points ≡ points_of (own_sections path.now (T.shown work.now.table.now).sections)) }
+{
+    let sections = work.table.sections_of(work.alloc, path)?;
+    joined(work.alloc, sections)
+}
+
+/// Writes a page of a source file into the file called `name`.
+fn write_page<D: OutputFolder>(
+    alloc: Global,
+    name: &[u8],
+    page: SourcePage<'_>,
+    report: &mut D,
+) -> Result<(), OutputFault>
+    requires free { D.begun report.old ≡ None }
+    requires few { D.failed report.old < 2 ^ 62 }
+    ensures finished { OnOk result (Finishes name.now (source_page (source_page_data page)) (D.finished report.old) (D.finished report.new)) }
+    ensures named { OnOk result (AddsName name.now (D.names report.old) (D.names report.new)) }
+    ensures none { D.begun report.new ≡ None }
+    ensures good { OnOk result (D.failed report.new ≡ D.failed report.old) }
+{
+    match std::str::from_utf8(name) {
+        Ok(name) => write_text(alloc, name, Page::Source(page), report),
+        Err(_) => Err(OutputFault::Failed),
+    }
+}
+
+/// Reads the source file of this `path`, and appends the line about it if its text isn't shown.
+fn source_for<F: Folder, T>(
+    work: &PagesWork<'_, F, T>,
+    path: &[u8],
+    rows: &[Row<'_>],
+    complaints: &mut Bytes,
+) -> Result<Source, Memory>
+    ensures source { IfOk result (λ source. IsSource (folder_data F.Folder F.File.Source work.now.sources.now) (located_by (rules_of work.now.options.now.sources) path.now) (map row_data rows.now) (source_data source)) }
+    ensures complaint { IfOk result (λ source. complaints.new ≡ complaints.old ++ complaint_of work.now.strictness (located_by (rules_of work.now.options.now.sources) path.now) (source_data source)) }
+{
+    let name = located(work.alloc, work.options.sources.get(), path)?;
+    let source = read_source(work.sources, work.alloc, name.get(), rows)?;
+    put_complaint(work.strictness, name.get(), &source, complaints)?;
+    Ok(source)
+}
+
+/// Writes the index of these source files.
+fn write_index<F, T: PointsTable<Global>, D: OutputFolder>(
+    work: &PagesWork<'_, F, T>,
+    entries: &[Entry<'_>],
+    report: &mut D,
+) -> Result<(), PagesFault>
+    requires free { D.begun report.old ≡ None }
+    requires few { D.failed report.old < 2 ^ 62 }
+    requires bounds { AreTotals (totals_together (map entry_data entries.now)) }
+    ensures index { OnOk result (Finishes (codes "index.html") (index_with work.now.options.now.title work.now.options.now.date
+        (totals_of (filter (λ s. is_chosen (choice_data work.now.choice.now) s.key.file) (T.shown work.now.table.now).sections)) (map entry_data entries.now)) (D.finished report.old) (D.finished report.new)) }
+    ensures named { OnOk result (AddsName (codes "index.html") (D.names report.old) (D.names report.new)) }
+    ensures none { D.begun report.new ≡ None }
+    ensures good { OnOk result (D.failed report.new ≡ D.failed report.old) }
+{
+    let indexed = indexed(work.alloc, entries)?;
+    let directories = directories(work.alloc, indexed.as_slice())?;
+    let page = IndexPage {
+        title: text_or(&work.options.title, TITLE),
+        date: text_if_any(&work.options.date),
+        totals: chosen_totals(work.table, work.choice),
+        directories: directories.as_slice(),
+    };
+    write_text(work.alloc, "index.html", Page::Index(page), report)?;
+    Ok(())
+}
+
+/// The text of an option, or `other` without the option.
+fn text_or<'t>(text: &'t Option<Bytes>, other: &'t [u8]) -> &'t [u8]
+    ensures { result.now ≡ unwrap_or text.now other.now }
+{
+    match text {
+        Some(text) => text.get(),
+        None => other,
+    }
+}
+
+/// The text of an option, if the option is given.
+fn text_if_any(text: &Option<Bytes>) -> Option<&[u8]>
+    ensures { option_map (λ t. t.now) result ≡ text.now }
+{
+    match text {
+        Some(text) => Some(text.get()),
+        None => None,
+    }
+}
