@@ -32,12 +32,13 @@ use Rattle.covcombine.specs.Combined.{IsCombineCall}
 use Rattle.covcommand.specs.declared.asked.CombineOptions.{CombineOptions}
 use Rattle.covcommand.specs.declared.asked.Command.{Command}
 use Rattle.covcommand.specs.declared.asked.Command.TheVariants as commands
+use Rattle.covcommand.specs.declared.asked.PageOptions.{PageOptions}
 use Rattle.covcommand.specs.declared.asked.TotalsForm.{TotalsForm}
 use Rattle.covcommand.specs.declared.asked.TotalsForm.TheVariants as forms
 use Rattle.covrun.specs.WorkFault.{IsRefusal, of_work}
 use Rattle.covrun.specs.declared.work.WorkFault.{WorkFault}
 use Rattle.covrun.specs.declared.work.WorkFault.TheVariants.{Words, Memory}
-use Rattle.covrun.specs.Call.{StopsEarly, AreTextsIn, IsUnreadable, WorkEnds, IsServed, IsWorkDone, IsTaskDone, IsCutShort, IsEndingPrinted, IsEndingReported, IsEndingWritten, IsUnwritten}
+use Rattle.covrun.specs.Call.{StopsEarly, AreTextsIn, IsUnreadable, WorkEnds, IsServed, IsWorkDone, IsTaskDone, IsCutShort, IsEndingPrinted, IsEndingReported, IsEndingWritten, IsUnwritten, IsShown}
 use Rattle.covrun.specs.Check.{IsCheck}
 use Rattle.covworld.specs.Folder.{FolderData}
 use Rattle.covworld.specs.OutputFiles.{IsWritten}
@@ -51,7 +52,7 @@ use Rattle.covrun.specs.declared.ending.Failure.{Failure}
 use Rattle.covrun.specs.declared.ending.Failure.TheVariants as failures
 use Rattle.covrun.specs.Ending.{EndingData, Prints, FallsShort, Unreadable, Stopped, Refuses, IsUnclean, strict_lines, of_collect, of_collected, complaints, refusal_line, ran_out, shortfall_status, text_in, text_at, last_text, asked_shortfalls, asked_text, list_text, unless_any, with_shortfalls}
 use Rattle.covlimit.specs.Limits.{has_limit}
-use Rattle.covrun.specs.Work.{QuestionData, Answer, ChosenReport, ChosenTotals, ChosenList, last_of, choice_of, asked_of, limits_of, summary_asked, words_asked, WorkData, TaskData, Serves, Collects, Checks, Combines, task_of}
+use Rattle.covrun.specs.Work.{QuestionData, Answer, ChosenReport, ChosenTotals, ChosenList, last_of, choice_of, asked_of, limits_of, summary_asked, words_asked, WorkData, TaskData, Serves, Collects, Checks, Combines, Shows, AsksList, task_of}
 use Rattle.covcommand.specs.declared.asked.TextSize.{TextSize}
 use Rattle.covrun.specs.declared.work.CheckedFormat.{CheckedFormat}
 use Rattle.covrun.proofs.Reading.{HaveTexts, HaveTextsFor, collected_in}
@@ -268,6 +269,7 @@ AsksText Serves = Unit {0}
 AsksText (Collects work) = IsText (last_of work.asks)
 AsksText (Checks format strictness jobs files) = Unit {0}
 AsksText (Combines options strictness) = Unit {0}
+AsksText (Shows work pages) = AsksList work.asks
 
 report_or_chosen : (choice : Option ChoiceData) → IsText (last_of (asked_of ReportOp ChosenReport choice))
 report_or_chosen None = tt
@@ -295,10 +297,15 @@ asks_text_of (commands.Remove version names) strictness size = tt
 asks_text_of (commands.Gcov test names) strictness size = tt
 asks_text_of (commands.Check format jobs names) strictness size = tt
 asks_text_of (commands.Combine options) strictness size = tt
+asks_text_of (commands.Html version jobs filter pages names) strictness size = tt
 
 -- the last operation of each subcommand that collects files asks for a text
 pub asks_text : (command : Command) (strictness : Strictness) (size : TextSize) (work : WorkData) → Collects work ≡ task_of command strictness size → IsText (last_of work.asks)
 asks_text command strictness size work is = subst AsksText (sym is) (asks_text_of command strictness size)
+
+-- and `html` asks for a list
+pub asks_list : (command : Command) (strictness : Strictness) (size : TextSize) (work : WorkData) (pages : PageOptions) → Shows work pages ≡ task_of command strictness size → AsksList work.asks
+asks_list command strictness size work pages is = subst AsksText (sym is) (asks_text_of command strictness size)
 
 -- ---- how a call ends
 
@@ -326,6 +333,11 @@ pub told_combine : (folder : FolderData) (options : CombineOptions) (strictness 
 told_combine folder options strictness task file named status old new is same done =
     subst (λ (t : TaskData). IsTaskDone folder t file status old new) is
     (subst (λ (f : Option (List ℕ)). IsCombineCall folder options strictness f status old new) same done)
+
+-- if pages were shown, the task of showing them is done
+pub told_pages : (folder : FolderData) (work : WorkData) (pages : PageOptions) (task : TaskData) (file : Option (List ℕ)) (status : ℕ) (old new : WorldData)
+    → Shows work pages ≡ task → IsShown folder work pages status old new → IsTaskDone folder task file status old new
+told_pages folder work pages task file status old new is done = subst (λ (t : TaskData). IsTaskDone folder t file status old new) is done
 
 -- if the work doesn't begin, the call ends early
 pub stops_early : (command : Command) (fault : WorkFault) (ending : EndingData) → ending ≡ of_work fault → IsRefusal command fault → StopsEarly command ending

@@ -34,7 +34,13 @@ use Rattle.covsession.specs.declared.session.fault.SessionFault.TheVariants as f
 use Rattle.covrun.specs.declared.argument_fault.ArgumentFault.{ArgumentFault}
 use Rattle.covrun.specs.Ending.{EndingData, Prints, FallsShort, BadLine, BadWords, Unreadable, Stopped, status_of, complaint, of_collect, of_collected}
 use Rattle.covrun.specs.Naming.{naming_of, told_name}
-use Rattle.covrun.specs.Work.{WorkData, TaskData, Serves, Collects, Checks, Combines, last_of, task_of, input_of, AreTaken, AreRefused}
+use Rattle.covrun.specs.Work.{WorkData, TaskData, Serves, Collects, Checks, Combines, Shows, choice_asked, last_of, task_of, input_of, AreTaken, AreRefused}
+use Rattle.covcommand.specs.declared.asked.PageOptions.{PageOptions}
+use Rattle.covbook.specs.Step.{ops_in, table_of}
+use Rattle.covpages.specs.Pages.{PagesWorkData, IsPagesFault, IsWritten as ArePagesWritten}
+use Rattle.covpages.specs.declared.fault.PagesFault.{PagesFault}
+use Rattle.covpages.specs.declared.fault.PagesFault.TheVariants as pages_faults
+use Rattle.covtable.specs.Content.{SectionData, content_at}
 use Rattle.covrun.specs.Check.{IsCheck}
 use Rattle.covlist.specs.Shown.{shown_name}
 use Rattle.covworld.specs.Folder.{FolderData, AreTextsOf}
@@ -101,7 +107,11 @@ WorkEnds folder file work ending =
     ⊎ ((texts : List (List ℕ)) × (answer : Result CollectedData CollectFault)
     × AreTextsIn work.format folder work.files texts × IsAnswer work texts answer × (ending ≡ ending_of file work answer)))
 
--- how a call ends before its work begins: memory ran out, or a pattern, a limit or the test's name is refused
+-- the ending has no text
+abbrev pub IsFailure : EndingData → Type 0
+IsFailure ending = (text lines : List ℕ) → ((ending ≡ Prints text) ⊎ (ending ≡ FallsShort text lines)) → ⊥
+
+-- how a call ends before its work begins: memory ran out, or a pattern, a limit, a rule or the test's name is refused
 abbrev pub StopsEarly : Command → EndingData → Type 0
 StopsEarly command ending =
     (ending ≡ Stopped faults.Memory) ⊎ ((fault : ArgumentFault) × (ending ≡ BadWords fault) × AreRefused command fault)
@@ -177,14 +187,57 @@ abbrev pub IsWorkDone : FolderData → WorkData → (file : Option (List ℕ)) �
 IsWorkDone folder work file status old new =
     (ending : EndingData) × WorkEnds folder file work ending × IsEndingReported file ending status old new
 
+-- what pages are written of
+abbrev pub pages_work : FolderData → WorkData → PageOptions → PagesWorkData
+pages_work folder work pages = record {
+  folder = string_bytes pages.folder;
+  title = pages.title;
+  date = pages.date;
+  rules = pages.sources;
+  choice = choice_asked work.asks;
+  strictness = work.strictness;
+  sources = folder;
+}
+
+-- the status for pages that weren't written, and what is written to the stream for faults
+abbrev pub pages_status : PagesFault → ℕ
+pages_status pages_faults.Foreign = 1
+pages_status pages_faults.Unwritten = 1
+pages_status (pages_faults.Refused lines) = 5
+pages_status pages_faults.Memory = fault_status faults.Memory
+
+abbrev pub pages_complaint : (folder : List ℕ) → PagesFault → List ℕ
+pages_complaint folder pages_faults.Foreign = shown_name folder ++ said (codes ": has files that html didn't write")
+pages_complaint folder pages_faults.Unwritten = shown_name folder ++ said (codes ": can't write")
+pages_complaint folder (pages_faults.Refused lines) = lines
+pages_complaint folder pages_faults.Memory = said (words_of_fault faults.Memory)
+
+-- pages of these sections were written, and warnings may be told; or they weren't, no file was finished, and the fault is reported
+abbrev pub PagesEnd : PagesWorkData → List SectionData → (status : ℕ) → WorldData → WorldData → Type 0
+PagesEnd work sections status old new =
+    ((warnings : List ℕ) × (status ≡ 0) × ArePagesWritten work sections old.files new.files warnings
+    × Withholds old.sinks new.sinks × Complains warnings old.sinks new.sinks)
+    ⊎ ((fault : PagesFault) × IsPagesFault work sections fault × (status ≡ pages_status fault) × (new.files.finished ≡ old.files.finished) × (new.files.names ≡ old.files.names)
+    × Withholds old.sinks new.sinks × Complains (pages_complaint work.folder fault) old.sinks new.sinks)
+
+-- what `html` does. It fails as a list of the same files would fail, and then no file is finished; or the files were collected, a list of
+-- them would have been printed, and they are shown
+abbrev pub IsShown : FolderData → WorkData → PageOptions → (status : ℕ) → WorldData → WorldData → Type 0
+IsShown folder work pages status old new =
+    ((ending : EndingData) × WorkEnds folder None work ending × IsEndingReported None ending status old new × IsFailure ending)
+    ⊎ ((texts : List (List ℕ)) × (c : CollectedData) × (text : List ℕ) × AreTextsIn work.format folder work.files texts
+    × IsAnswer work texts (Ok c) × (ending_of None work (Ok c) ≡ Prints text) × (new.input ≡ old.input) × (new.files.begun ≡ old.files.begun)
+    × PagesEnd (pages_work folder work pages) (content_at (table_of (ops_in c.entries))) status old new)
+
 -- what a call does for its task. Only a session reads the input, and only collecting and combining write a file. Checking files reports each
--- file
+-- file. Showing files writes a folder
 abbrev pub IsTaskDone : FolderData → TaskData → (file : Option (List ℕ)) → (status : ℕ) → WorldData → WorldData → Type 0
 IsTaskDone folder Serves file status old new = IsServed status old new
 IsTaskDone folder (Collects work) file status old new = IsWorkDone folder work file status old new
 IsTaskDone folder (Checks format strictness jobs names) file status old new =
     ChangesSinksAlone old new × IsCheck folder format strictness names status old.sinks new.sinks
 IsTaskDone folder (Combines options strictness) file status old new = IsCombineCall folder options strictness file status old new
+IsTaskDone folder (Shows work pages) file status old new = IsShown folder work pages status old new
 
 -- a command ends early, and the input isn't read; or its words are accepted, and its task is done
 abbrev pub IsCommandDone : FolderData → Command → Strictness → TextSize → (file : Option (List ℕ)) → (status : ℕ) → WorldData → WorldData → Type 0

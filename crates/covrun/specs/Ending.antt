@@ -72,6 +72,7 @@ argument_fault_name arguments.TooMany = codes "TooMany"
 argument_fault_name arguments.TooLong = codes "TooLong"
 argument_fault_name arguments.BadTest = codes "BadTest"
 argument_fault_name arguments.BadRate = codes "BadRate"
+argument_fault_name arguments.BadSource = codes "BadSource"
 argument_fault_name arguments.BadJobs = codes "BadJobs"
 
 -- what is written to the stream for faults

@@ -3,6 +3,7 @@ pub use Rattle.covworld.specs.Folder
 pub use Rattle.covworld.specs.OutputFiles
 pub use Rattle.covworld.specs.World
 pub use Rattle.covcombine.specs.Combined
+pub use Rattle.covpages.specs.Pages
 pub mod Work
 pub mod Naming
 pub mod Strict

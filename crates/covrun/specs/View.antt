@@ -2,7 +2,7 @@
 use Rattle.covbook.specs.View.{op_data}
 use Rattle.covreport.specs.ChoiceView.{choice_data}
 use Rattle.covlimit.specs.LimitsView.{limits_data}
-use Rattle.covrun.specs.Work.{QuestionData, Answer, ChosenReport, ChosenTotals, ChosenList, WorkData, TaskData, Serves, Collects, Checks, Combines}
+use Rattle.covrun.specs.Work.{QuestionData, Answer, ChosenReport, ChosenTotals, ChosenList, WorkData, TaskData, Serves, Collects, Checks, Combines, Shows}
 use Rattle.covrun.specs.Ending.{EndingData, BadWords, Unreadable, Stopped, Refuses, IsUnclean, with_shortfalls}
 use Rattle.covrun.specs.declared.question.Question.{Question}
 use Rattle.covrun.specs.declared.question.Question.TheVariants as questions
@@ -27,6 +27,7 @@ task_data tasks.Session = Serves
 task_data (tasks.Collect work) = Collects (work_data work)
 task_data (tasks.Check options files) = Checks options.format options.strictness options.jobs files
 task_data (tasks.Combine options strictness) = Combines options strictness
+task_data (tasks.Show work pages) = Shows (work_data work) pages
 
 abbrev pub ready_data : {T Plan Renaming : Type 0} → ReadyAnswer T Plan Renaming → EndingData
 ready_data answer = with_shortfalls answer.shortfalls answer.text

@@ -1,6 +1,6 @@
 -- What a subcommand has to do, and which of its words are refused before any file is read.
 use Rattle.std.specs.List.{AllByRecursion}
-use Rattle.std.specs.Prelude.{◌≡◌, ◌⊎◌, ◌<◌, ◌≤◌, ℕ, if◌then◌else◌, List, [], Option, None, Some, length, take, drop}
+use Rattle.std.specs.Prelude.{◌≡◌, ◌⊎◌, ◌<◌, ◌≤◌, ℕ, if◌then◌else◌, List, [], Option, None, Some, length, map, take, drop, is_some, IsTrue}
 use Rattle.covdata.specs.Lawful.{IsGoodTest}
 use Rattle.covlimit.specs.Limits.{LimitsData, has_limit}
 use Rattle.covlimit.specs.Rates.{IsRate}
@@ -9,12 +9,15 @@ use Rattle.covbook.specs.Op.{OpData, ReportOp, SummaryOp, ExtractOp, RemoveOp}
 use Rattle.covjobs.specs.Inputs.{InputData, TraceInput, Lcov2Input, GcovInput}
 use Rattle.covcommand.specs.declared.asked.CombineOptions.{CombineOptions}
 use Rattle.covcommand.specs.declared.asked.Command.{Command}
-use Rattle.covcommand.specs.declared.asked.Command.TheVariants.{Session, Merge, Summary, List as ListFiles, Extract, Remove, Gcov, Check, Combine}
+use Rattle.covcommand.specs.declared.asked.Command.TheVariants.{Session, Merge, Summary, List as ListFiles, Extract, Remove, Gcov, Check, Combine, Html}
 use Rattle.covcommand.specs.declared.asked.Limits.{Limits}
+use Rattle.covcommand.specs.declared.asked.PageOptions.{PageOptions}
 use Rattle.covcommand.specs.declared.asked.TotalsForm.{TotalsForm}
 use Rattle.covcommand.specs.declared.asked.TotalsForm.TheVariants as forms
 use Rattle.covcommand.specs.declared.asked.SourceFilter.{SourceFilter}
 use Rattle.covcommand.specs.declared.asked.Strictness.{Strictness}
+use Rattle.covpages.specs.Sources.{rule_of}
+use Rattle.covtable.specs.Table.{Table}
 use Rattle.covdata.specs.declared.version.LcovVersion.{LcovVersion}
 use Rattle.covdata.specs.declared.version.LcovVersion.TheVariants as versions
 use Rattle.covcommand.specs.declared.asked.TextFormat.{TextFormat}
@@ -102,12 +105,13 @@ filtering format strictness op names =
     record { files = take 1 names; format = format; strictness = strictness; jobs = 1; asks = Answer (op (drop 1 names)) }
 
 -- what a call has to do: a session; or to collect files and then answer what is asked; or to check files, each by itself; or to combine
--- files
+-- files; or to collect files, as for a list, and then write pages
 pub data TaskData : Type 0 where
   Serves : TaskData
   Collects : (work : WorkData) → TaskData
   Checks : (format : CheckedFormat) → (strictness : Strictness) → (jobs : ℕ) → (files : List (List ℕ)) → TaskData
   Combines : (options : CombineOptions) → (strictness : Strictness) → TaskData
+  Shows : (work : WorkData) → (pages : PageOptions) → TaskData
 
 -- what each subcommand has to do; a call without a subcommand is a session
 abbrev pub task_of : Command → Strictness → TextSize → TaskData
@@ -124,6 +128,8 @@ task_of (Gcov test names) strictness size =
     Collects (record { files = names; format = GcovOutput test; strictness = strictness; jobs = 1; asks = Answer ReportOp })
 task_of (Check format jobs names) strictness size = Checks (checked_as size format) strictness jobs names
 task_of (Combine options) strictness size = Combines options strictness
+task_of (Html version jobs filter pages names) strictness size =
+    Shows (record { files = names; format = tracefiles size version; strictness = strictness; jobs = jobs; asks = ChosenList forms.Words (chosen_or_all (choice_of filter)) }) pages
 
 -- a file's text as an input of collecting: a tracefile of this version of lcov, or gcov's text of this test
 abbrev pub input_of : FileFormat → List ℕ → InputData
@@ -145,6 +151,7 @@ IsPatternFault patterns arguments.TooMany = (max_patterns < length patterns) × 
 IsPatternFault patterns arguments.TooLong = AllByRecursion IsShort (take max_patterns patterns) → ⊥
 IsPatternFault patterns arguments.BadTest = ⊥
 IsPatternFault patterns arguments.BadRate = ⊥
+IsPatternFault patterns arguments.BadSource = ⊥
 IsPatternFault patterns arguments.BadJobs = ⊥
 
 -- the patterns of both options are accepted
@@ -170,6 +177,17 @@ AreRates limits = IsRateIfAny limits.lines × IsRateIfAny limits.functions × Is
 abbrev pub IsLimitFault : LimitsData → ArgumentFault → Type 0
 IsLimitFault limits fault = (fault ≡ arguments.BadRate) × (AreRates limits → ⊥)
 
+-- each word is a rule for where source files lie
+abbrev pub AreRules : List (List ℕ) → Type 0
+AreRules words = AllByRecursion (λ word. IsTrue (is_some (rule_of word))) words
+
+abbrev pub IsRuleFault : List (List ℕ) → ArgumentFault → Type 0
+IsRuleFault words fault = (fault ≡ arguments.BadSource) × (AreRules words → ⊥)
+
+-- the patterns are looked at before the rules
+abbrev pub IsShowFault : SourceFilter → List (List ℕ) → ArgumentFault → Type 0
+IsShowFault filter words fault = IsFilterFault filter fault ⊎ (IsFilter filter × IsRuleFault words fault)
+
 -- the patterns are looked at before the limits
 abbrev pub IsSummaryFault : SourceFilter → LimitsData → ArgumentFault → Type 0
 IsSummaryFault filter limits fault = IsFilterFault filter fault ⊎ (IsFilter filter × IsLimitFault limits fault)
@@ -185,6 +203,7 @@ AreTaken (Remove version names) = ArePatterns (drop 1 names)
 AreTaken (Gcov test names) = IsGoodTest test
 AreTaken (Check format jobs names) = Unit {0}
 AreTaken (Combine options) = Unit {0}
+AreTaken (Html version jobs filter pages names) = IsFilter filter × AreRules pages.sources
 
 -- a pattern, a limit or the test's name is refused for this reason
 abbrev pub AreRefused : Command → ArgumentFault → Type 0
@@ -197,3 +216,18 @@ AreRefused (Remove version names) fault = IsPatternFault (drop 1 names) fault
 AreRefused (Gcov test names) fault = IsTestFault test fault
 AreRefused (Check format jobs names) fault = ⊥
 AreRefused (Combine options) fault = ⊥
+AreRefused (Html version jobs filter pages names) fault = IsShowFault filter pages.sources fault
+
+-- a list of source files is asked for
+abbrev pub AsksList : QuestionData → Type 0
+AsksList (Answer op) = ⊥
+AsksList (ChosenReport choice) = ⊥
+AsksList (ChosenTotals form choice limits) = ⊥
+AsksList (ChosenList form choice) = Unit {0}
+
+-- the source files that are asked for
+abbrev pub choice_asked : QuestionData → ChoiceData
+choice_asked (Answer op) = AllFiles
+choice_asked (ChosenReport choice) = choice
+choice_asked (ChosenTotals form choice limits) = choice
+choice_asked (ChosenList form choice) = choice

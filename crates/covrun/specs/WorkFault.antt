@@ -9,7 +9,7 @@ use Rattle.covrun.specs.declared.work.WorkFault.TheVariants.{Words, Memory}
 use Rattle.covsession.specs.declared.session.fault.SessionFault.TheVariants as faults
 use Rattle.covrun.specs.Ending.{EndingData, BadWords, Stopped}
 use Rattle.covcommand.specs.declared.asked.SourceFilter.{SourceFilter}
-use Rattle.covrun.specs.Work.{AreRefused, IsFilterFault, IsLimitFault, IsPatternFault, IsTestFault}
+use Rattle.covrun.specs.Work.{AreRefused, IsFilterFault, IsLimitFault, IsPatternFault, IsRuleFault, IsTestFault}
 use Rattle.covlimit.specs.Limits.{LimitsData}
 
 abbrev pub of_pattern : PatternFault → WorkFault
@@ -36,6 +36,10 @@ IsLimitRefusal limits Memory = ⊥
 abbrev pub IsTestRefusal : List ℕ → WorkFault → Type 0
 IsTestRefusal test (Words fault) = IsTestFault test fault
 IsTestRefusal test Memory = Unit {0}
+
+abbrev pub IsRuleRefusal : List (List ℕ) → WorkFault → Type 0
+IsRuleRefusal words (Words fault) = IsRuleFault words fault
+IsRuleRefusal words Memory = ⊥
 
 -- the ending for this fault
 abbrev pub of_work : WorkFault → EndingData

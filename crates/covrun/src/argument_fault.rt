@@ -11,6 +11,8 @@ pub enum ArgumentFault {
     BadTest,
     /// A threshold isn't a rate: a decimal number of percent from 0 to 100, with at most six digits after the point.
     BadRate,
+    /// A rule for where source files lie has no `=`.
+    BadSource,
     /// The number of jobs is 0 or more than 64, which the command line never admits.
     BadJobs,
 }

@@ -89,7 +89,7 @@ pub(crate) fn do_work<
 }
 
 /// The failure of a run that can't read the file called `name`; `Stopped` if memory runs out.
-fn unreadable(alloc: Global, naming: Naming, name: &str) -> Failure
+pub(crate) fn unreadable(alloc: Global, naming: Naming, name: &str) -> Failure
     ensures { (failure_data result ≡ Stopped session_faults.Memory) ⊎ (failure_data result ≡ Unreadable (told_name naming name.now)) }
 {
     let mut told = Bytes::new(alloc);
@@ -101,7 +101,7 @@ fn unreadable(alloc: Global, naming: Naming, name: &str) -> Failure
 
 /// Returns the answer to `asks` after all files are collected, or why there is none: `Stopped` if memory runs out. All memory for
 /// printing is already reserved in the answer.
-fn answer_of<'a, T: Table<Global>>(
+pub(crate) fn answer_of<'a, T: Table<Global>>(
     alloc: Global,
     naming: Naming,
     files: &[String],
@@ -199,7 +199,7 @@ fn add_refusals(
 }
 
 /// The name of the file at `index`; empty if the index is out of range.
-fn file_name(files: &[String], index: usize) -> &str
+pub(crate) fn file_name(files: &[String], index: usize) -> &str
     ensures { result.now ≡ name_at (slice_get (map string_bytes files.now) index) }
 {
     match files.get(index) {

@@ -2,7 +2,7 @@
 //!
 //! `run` parses the command line (covcommand) and makes a `Task` of the command. The task is a session (covsession) if there is no
 //! subcommand. `check` reads and reports each file by itself (`checked`, `file_report`), several at once if there are several jobs.
-//! `combine` is a crate of its own, covcombine.
+//! `combine` is a crate of its own, covcombine. `html` collects like `list`, and writes the pages of covpages (`pages`).
 //! Any other subcommand is `Work`: covworkers collects the files in a book, and a job reads a file when the file's turn comes
 //! (`FileInput`). So at most one file's content per job is in memory. The result of collecting is a `ReadyAnswer` or a `Failure`,
 //! which is reported by an exit status and on the two output streams. An answer goes from the book to the output in blocks while it
@@ -45,6 +45,7 @@ mod large_input;
 mod messages;
 mod naming;
 mod output;
+mod pages;
 mod program;
 mod question;
 mod strict;
@@ -52,5 +53,5 @@ mod text_fault;
 mod work;
 
 pub use argument_fault::ArgumentFault;
-pub use covworld::{Folder, OutputFolder, Sinks, World};
+pub use covworld::{Folder, FolderWriter, OutputFolder, Sinks, World};
 pub use program::{refuse, run};

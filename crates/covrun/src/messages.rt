@@ -12,6 +12,9 @@ pub(crate) const CANT_READ: &[u8] = b": can't read\n";
 /// The end of the line about a file that can't be written.
 pub(crate) const CANT_WRITE: &[u8] = b": can't write\n";
 
+/// The end of the line about a folder that `html` doesn't replace.
+pub(crate) const FOREIGN: &[u8] = b": has files that html didn't write\n";
+
 /// The end of the line about a file without items.
 pub(crate) const NO_ITEMS: &[u8] = b": no items\n";
 
@@ -27,6 +30,7 @@ pub(crate) fn line_of_argument(fault: ArgumentFault) -> &'static [u8]
         ArgumentFault::TooLong => b"TooLong\n",
         ArgumentFault::BadTest => b"BadTest\n",
         ArgumentFault::BadRate => b"BadRate\n",
+        ArgumentFault::BadSource => b"BadSource\n",
         ArgumentFault::BadJobs => b"BadJobs\n",
     }
 }

@@ -153,7 +153,12 @@ fn print<O: Sink, E: Sink>(text: &[u8], sinks: &mut Sinks<O, E>) -> u8
 }
 
 /// Writes `front` and then `words` to the error stream. Returns `status`.
-fn complain<O: Sink, E: Sink>(front: &[u8], words: &[u8], status: u8, sinks: &mut Sinks<O, E>) -> u8
+pub(crate) fn complain<O: Sink, E: Sink>(
+    front: &[u8],
+    words: &[u8],
+    status: u8,
+    sinks: &mut Sinks<O, E>,
+) -> u8
     requires { sinks.old.failed_faults < 2 ^ 62 }
     ensures status { result ≡ status }
     ensures said { Complains (front.now ++ words.now) sinks.old sinks.new }

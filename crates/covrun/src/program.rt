@@ -12,12 +12,14 @@ use crate::checked::check_files;
 use crate::collecting::do_work;
 use crate::ending::failure_of_work;
 use crate::output::{report_failure, report_line};
+use crate::pages::do_pages;
 use crate::work::{Task, task_for};
 use covcombine::combine;
 use covcommand::{Asked, CommandFault, command};
+use covhtml::PointsTable;
 use covreport::Table;
 use covstream::{Sink, Source};
-use covworld::{Folder, OutputFolder, Sinks, World};
+use covworld::{Folder, FolderWriter, OutputFolder, Sinks, World};
 use std::alloc::{AllocGlobal, Global};
 use std::sync::Wait;
 use std::thread::Threads;
@@ -26,7 +28,7 @@ use std::thread::Threads;
 ///
 /// A run that collects files checks for errors in this order, given here with the exit statuses:
 /// - the command line (2);
-/// - the patterns, then the thresholds, or for `gcov` the test's name (2);
+/// - the patterns, then the thresholds or where sources lie, or for `gcov` the test's name (2);
 /// - the first file that can't be read (1);
 /// - an error of collecting, such as a full history (3), or an input for which memory ran out (3);
 /// - invalid files, and clashes of accepted ones (4);
@@ -48,6 +50,10 @@ use std::thread::Threads;
 ///
 /// `combine` reads each file in chunks, and has an order of its own, which `covcombine::combine` gives.
 ///
+/// `html` fails like `list`. Then it writes pages into a new folder, which replaces an older one as a whole. It fails if the folder
+/// can't be written or has files that `html` didn't write (1), and in a strict run if source files can't be shown (5). Nothing has
+/// changed then. It writes nothing to the output.
+///
 /// The run collects or checks the content of the files on the command line, if `folder` knows its files' bytes.
 ///
 /// A run without a subcommand is a session over the input and the output. Only a session reads the input. The output is flushed,
@@ -57,11 +63,11 @@ use std::thread::Threads;
 pub fn run<
     R: AllocGlobal + Threads + Wait + Sync,
     F: Folder<File: Send> + Sync,
-    P: OutputFolder,
+    P: FolderWriter,
     I: Source,
     O: Sink,
     E: Sink,
-    T: Table<Global, Plan: Send, Renaming: Send> + Send,
+    T: PointsTable<Global, Plan: Send, Renaming: Send> + Send,
 >(rt: &R, folder: &F, words: &[String], world: &mut World<P, I, O, E>) -> u8
     requires { CanCall world.old }
     ensures { IsCall (folder_data F.Folder F.File.Source folder.now) (map string_bytes words.now) result world.old world.new }
@@ -77,11 +83,11 @@ pub fn run<
 fn run_command<
     R: Threads + Wait + Sync,
     F: Folder<File: Send> + Sync,
-    P: OutputFolder,
+    P: FolderWriter,
     I: Source,
     O: Sink,
     E: Sink,
-    T: Table<Global, Plan: Send, Renaming: Send> + Send,
+    T: PointsTable<Global, Plan: Send, Renaming: Send> + Send,
 >(rt: &R, folder: &F, alloc: Global, asked: Asked, world: &mut World<P, I, O, E>) -> u8
     requires { CanCall world.old }
     ensures { IsCommandDone (folder_data F.Folder F.File.Source folder.now) asked.command asked.strictness asked.size
@@ -115,6 +121,9 @@ fn run_command<
             name_of(&file),
             world,
         ),
+        Ok(Task::Show { work, pages }) => {
+            do_pages::<R, F, P, I, O, E, T>(rt, folder, alloc, &work, &pages, world)
+        }
         Err(fault) => report_failure(failure_of_work(fault), world),
     }
 }

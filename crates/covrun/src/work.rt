@@ -4,11 +4,12 @@ use crate::argument_fault::ArgumentFault;
 use crate::question::Question;
 use covbook::Op;
 use covcommand::{
-    CombineOptions, Command, LcovVersion, Limits as LimitWords, Names, SourceFilter, Strictness,
-    TextFormat, TextSize,
+    CombineOptions, Command, LcovVersion, Limits as LimitWords, Names, PageOptions, SourceFilter,
+    Strictness, TextFormat, TextSize, TotalsForm,
 };
 use covdata::{Bytes, Memory, good_test};
 use covlimit::{Limits, Rate};
+use covpages::SourceRule;
 use covreport::{Choice, PatternFault, Patterns};
 use std::alloc::{AllocError, Global};
 
@@ -69,6 +70,11 @@ pub(crate) enum Task {
         options: CombineOptions,
         strictness: Strictness,
     },
+    /// Collects files and writes pages.
+    Show {
+        work: Work,
+        pages: PageOptions,
+    },
 }
 
 /// Why a subcommand's work can't begin.
@@ -125,8 +131,8 @@ ghost use Rattle.covrun.specs.View.{question_data, task_data};
 ghost use Rattle.covlimit.specs.LimitsView.{limits_data};
 ghost use Rattle.covbook.specs.Op.{ExtractOp, RemoveOp, ReportOp};
 ghost use Rattle.covrun.specs.declared.work.FileFormat.TheVariants.{GcovOutput};
-ghost use Rattle.covrun.specs.Work.{Answer, filtering, choice_of, limits_of, checked_as as checked_as_of, task_of, tracefiles as tracefiles_of, ArePatterns, AreRates, AreTaken, Checks, Collects, IsFilter, IsRateIfAny};
-ghost use Rattle.covrun.specs.WorkFault.{IsRefusal, IsFilterRefusal, IsLimitRefusal, IsPatternRefusal, IsTestRefusal};
+ghost use Rattle.covrun.specs.Work.{Answer, filtering, choice_of, limits_of, checked_as as checked_as_of, task_of, tracefiles as tracefiles_of, ArePatterns, AreRates, AreRules, AreTaken, Checks, Collects, IsFilter, IsRateIfAny};
+ghost use Rattle.covrun.specs.WorkFault.{IsRefusal, IsFilterRefusal, IsLimitRefusal, IsPatternRefusal, IsRuleRefusal, IsTestRefusal};
 ghost use Rattle.covrun.specs.declared.argument_fault.ArgumentFault.TheVariants as arguments;
 ghost use Rattle.covrun.specs.declared.work.WorkFault.TheVariants as faults;
 
@@ -190,6 +196,24 @@ pub(crate) fn task_for(
             options,
             strictness,
         }),
+        Command::Html {
+            version,
+            jobs,
+            filter,
+            pages,
+            names,
+        } => {
+            let asks = Question::list(TotalsForm::Words, chosen_files(alloc, &filter)?);
+            check_rules(pages.sources.get())?;
+            let work = Work {
+                files: names,
+                format: tracefiles(size, version),
+                strictness,
+                jobs,
+                asks,
+            };
+            Ok(Task::Show { work, pages })
+        }
     }
 }
 
@@ -335,6 +359,19 @@ fn rate(word: Option<Bytes>) -> Result<Option<Rate>, WorkFault>
         Some(rate) => Ok(Some(rate)),
         None => Err(WorkFault::Words(ArgumentFault::BadRate)),
     }
+}
+
+/// Checks that each word is a rule for where source files lie.
+fn check_rules(words: &[String]) -> Result<(), WorkFault>
+    ensures taken { IfOk result (λ _. AreRules (map string_bytes words.now)) }
+    ensures refused { IfErr result (IsRuleRefusal (map string_bytes words.now)) }
+{
+    for word in words {
+        if SourceRule::of(word.as_str()).is_none() {
+            return Err(WorkFault::Words(ArgumentFault::BadSource));
+        }
+    }
+    Ok(())
 }
 
 /// Checks that a test may have the name `test`.

@@ -4,7 +4,7 @@
 ghost use Rattle.covworld.specs.Streams.{CanWrite};
 ghost use Rattle.covworld.specs.World.{CanCall};
 
-use covrun::{Folder, OutputFolder, Sinks, World};
+use covrun::{Folder, FolderWriter, Sinks, World};
 use covstore::Store;
 use covstream::{FromRead, FromWrite, Sink, Source};
 use covworld::{FromFiles, IntoFiles};
@@ -27,7 +27,7 @@ mod printing;
 fn run<
     R: AllocGlobal + Threads + Wait + Sync,
     F: Folder<File: Send> + Sync,
-    P: OutputFolder,
+    P: FolderWriter,
     I: Source,
     O: Sink,
     E: Sink,
@@ -40,7 +40,7 @@ fn run<
 /// Runs the program on the file system and returns its exit status.
 fn called<
     R: Files<File: Send, Dir: Send> + RandomSource + AllocGlobal + Threads + Wait + Sync,
-    P: OutputFolder,
+    P: FolderWriter,
     I: Source,
     O: Sink,
     E: Sink,

@@ -5,9 +5,9 @@ ghost use Rattle.std.specs.String.{string_bytes};
 
 use super::folders::OneFile;
 use super::{Told, check_text, kept_sinks, run, words_of};
-use covrun::{OutputFolder, World};
+use covrun::{FolderWriter, OutputFolder, World};
 use covstream::{Failed, FromRead, FromWrite, Sink};
-use covworld::OutputFault;
+use covworld::{FolderFault, OutputFault};
 use std::alloc::Global;
 use std::process::Abort;
 use std::sync::Wait;
@@ -45,6 +45,27 @@ impl OutputFolder for NoFiles {
 
     fn abandon(&mut self, _file: FromWrite<Vec<u8>>) {
         self.failed += 1;
+    }
+}
+
+impl FolderWriter for NoFiles {
+    ghost folder_name = { λ _. [] };
+
+    type NewFolder = NoFiles;
+
+    fn begin_folder(&mut self, _name: &str) -> Result<NoFiles, FolderFault> {
+        self.failed += 1;
+        Err(FolderFault::Failed)
+    }
+
+    fn finish_folder(&mut self, folder: NoFiles) -> Result<(), OutputFault> {
+        drop(folder);
+        self.failed += 1;
+        Err(OutputFault::Failed)
+    }
+
+    fn abandon_folder(&mut self, folder: NoFiles) {
+        drop(folder);
     }
 }
 
@@ -111,8 +132,29 @@ impl OutputFolder for Shelf {
     }
 }
 
+impl FolderWriter for Shelf {
+    ghost folder_name = { λ _. [] };
+
+    type NewFolder = NoFiles;
+
+    fn begin_folder(&mut self, _name: &str) -> Result<NoFiles, FolderFault> {
+        self.failed += 1;
+        Err(FolderFault::Failed)
+    }
+
+    fn finish_folder(&mut self, folder: NoFiles) -> Result<(), OutputFault> {
+        drop(folder);
+        self.failed += 1;
+        Err(OutputFault::Failed)
+    }
+
+    fn abandon_folder(&mut self, folder: NoFiles) {
+        drop(folder);
+    }
+}
+
 /// Runs the command line `asked` with the output folder `files`. Returns what the run wrote to its streams, and the folder.
-fn told_onto<R: AllocGlobal + Threads + Wait + Abort + Sync, P: OutputFolder + Drop>(
+fn told_onto<R: AllocGlobal + Threads + Wait + Abort + Sync, P: FolderWriter + Drop>(
     rt: &R,
     asked: &str,
     files: P,
@@ -137,7 +179,7 @@ fn told_onto<R: AllocGlobal + Threads + Wait + Abort + Sync, P: OutputFolder + D
 
 /// Runs the command line `asked` with the output folder `files`. Returns the exit status, the error stream and the folder. Checks
 /// that the standard output is empty.
-fn call_onto<R: AllocGlobal + Threads + Wait + Abort + Sync, P: OutputFolder + Drop>(
+fn call_onto<R: AllocGlobal + Threads + Wait + Abort + Sync, P: FolderWriter + Drop>(
     rt: &R,
     asked: &str,
     files: P,
@@ -316,6 +358,27 @@ impl OutputFolder for Shorts {
         self.begun = None;
         self.abandoned = self.abandoned.saturating_add(1);
         self.failed += 1;
+    }
+}
+
+impl FolderWriter for Shorts {
+    ghost folder_name = { λ _. [] };
+
+    type NewFolder = NoFiles;
+
+    fn begin_folder(&mut self, _name: &str) -> Result<NoFiles, FolderFault> {
+        self.failed += 1;
+        Err(FolderFault::Failed)
+    }
+
+    fn finish_folder(&mut self, folder: NoFiles) -> Result<(), OutputFault> {
+        drop(folder);
+        self.failed += 1;
+        Err(OutputFault::Failed)
+    }
+
+    fn abandon_folder(&mut self, folder: NoFiles) {
+        drop(folder);
     }
 }
 

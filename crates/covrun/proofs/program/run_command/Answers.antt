@@ -42,6 +42,18 @@ returns-in-Ok-Combine g c =
           (ap task_data (sym c.in-Ok-Combine.field-0-is) ∙ c.in-Ok-Combine.ensures.task) c.name_of-in-Ok-Combine.ensures c.combine.ensures,
     )
 
+pub do_pages-requires-clause-list : goal.do_pages-requires-clause-list
+do_pages-requires-clause-list g c =
+    asks_list c.args.asked.command c.args.asked.strictness c.args.asked.size (work_data c.in-Ok-Show.work) c.in-Ok-Show.pages (ap task_data (sym c.in-Ok-Show.field-0-is) ∙ c.in-Ok-Show.ensures.task)
+
+pub returns-in-Ok-Show : goal.returns-in-Ok-Show
+returns-in-Ok-Show g c =
+    inr (
+      c.in-Ok-Show.ensures.taken,
+      told_pages (folder_data g.F.Folder g.F.File.Source c.args.folder.now) (work_data c.in-Ok-Show.work) c.in-Ok-Show.pages _ _ _ _ _
+          (ap task_data (sym c.in-Ok-Show.field-0-is) ∙ c.in-Ok-Show.ensures.task) c.do_pages.ensures,
+    )
+
 pub returns : goal.returns
 returns g c =
     inl (
