@@ -289,7 +289,7 @@ END
     releases lcov 'LCOV 2'
     # README's quick start, on the files of the folder jobs.
     quick_start | sed 's/80/40/' >script
-    holds 'README: its script has three commands' [ "$(sed 's/ -.*//' script | tr '\n' ,)" = 'covcollect merge,covcollect summary,genhtml,' ]
+    holds 'README: its script has three commands' [ "$(sed 's/ -.*//' script | tr '\n' ,)" = 'covcollect merge,covcollect summary,covcollect html,' ]
     mkdir tools
     ln -s "$COVCOLLECT" tools/covcollect
     for release in "${found[@]}"; do
@@ -303,8 +303,8 @@ END
         mkdir $release/jobs
         lcov_of "$lcov" geninfo --quiet --rc branch_coverage=1 --test-name t --output-filename $release/jobs/t.info $release >"$work/log" 2>&1
         call env -C $release PERL5LIB="$lcov/usr/share/perl5" PATH="$PWD/tools:$lcov/usr/bin:$PATH" bash -e "$PWD/script"
-        ended 0 "README: its script, with genhtml of $version"
-        holds "README: its script: a page of the source by $version" grep -rq 'auto never' $release/html --include='never.cpp.gcov.html'
+        ended 0 "README: its script, with a tracefile of $version"
+        holds "README: its script: a page of the source of $version" grep -rq 'auto never' $release/html --include='file-*never.cpp.html'
         for words in 'genhtml -o page' 'lcov -o sum -a' 'lcov --summary'; do
             # shellcheck disable=SC2086 # several words
             call lcov_of "$lcov" $words $release/all.info

@@ -47,13 +47,10 @@ lines() { # HIT FOUND PATH
     says "$work/err" 'ci.sh: is told' "ci.sh: $PWD/old has no --strict, so it is older than ci.sh"
 }
 
-# README's quick start, in the file script: its first argument is the threshold, and the merge gets the others. What genhtml would be called
-# with is printed.
+# README's quick start, in the file script: its first argument is the threshold, and the merge gets the others.
 readme_script() {
     mkdir -p tools
     ln -sf "$COVCOLLECT" tools/covcollect
-    printf '#!/bin/sh\necho "genhtml $*"\n' >tools/genhtml
-    chmod +x tools/genhtml
     { echo 'set -e'; quick_start | sed '/^covcollect merge/s/$/ "${@:2}"/; s/80/"$1"/'; } >script
 }
 script() { call env PATH="$PWD/tools:$PATH" bash script "$@"; } # THRESHOLD OPTION...
@@ -71,7 +68,7 @@ readme_option() { # NAME
     mapfile -t strict < <(readme_option --strict)
     mapfile -t exclude < <(readme_option --exclude)
     holds 'README: three commands, of which one merges, one asks for the threshold and one makes pages' \
-        [ "$(grep -c '"\$1"' script) $(sed '1d; s/ -.*//' script | tr '\n' ,)" = '1 covcollect merge,covcollect summary,genhtml,' ]
+        [ "$(grep -c '"\$1"' script) $(sed '1d; s/ -.*//' script | tr '\n' ,)" = '1 covcollect merge,covcollect summary,covcollect html,' ]
     holds 'README: and two options' [ "${strict[*]} ${exclude[*]}" = '--strict --exclude /usr/*' ]
     # By hand: 8 of 10 lines, 0 of 1 functions, 1 of 2 branches.
     cat >wanted <<'END'
@@ -86,7 +83,7 @@ END
     says "$work/err" 'README: what falls short' 'lines: 8 of 10 is below 80.1%'
     script 80
     ended 0 'README: 8 of 10 lines are 80%'
-    says "$work/out" 'README: and the script goes on' 'genhtml --branch-coverage --rc derive_function_end_line=0 -o html all.info'
+    holds 'README: and the script goes on' [ -f html/file--src-a.c.html ]
     cat >wanted <<'END'
        Lines   Functions    Branches  File
  87.5%   7/8       - 0/0       - 0/0  /src/a.c

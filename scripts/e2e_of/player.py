@@ -72,8 +72,8 @@ class Player:
             self.look_into(os.path.join(os.fsencode(folder), os.fsencode(it)), text)
 
     def no_part(self, folder):
-        """No file that isn't finished is left in a folder, or below it."""
-        left = [it for _, _, names in os.walk(os.fsencode(folder)) for it in names if it.endswith(b".part")]
+        """No file or folder that isn't finished is left in a folder, or below it."""
+        left = [it for _, folders, names in os.walk(os.fsencode(folder)) for it in (*folders, *names) if it.endswith((b".part", b".old"))]
         if left:
             self.differs(f"{left} is left in {folder}")
 
