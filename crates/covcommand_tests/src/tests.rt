@@ -4,8 +4,8 @@
 //! proof. Functions append to a text and panic if memory runs out: each `?` would have to drop the text.
 
 use covcommand::{
-    Asked, CombineOptions, Command, CommandFault, LcovVersion, Limits, Names, Overview, PageOptions,
-    SourceFilter, Strictness, TextFormat, TextSize, TotalsForm, command,
+    Asked, CombineOptions, Command, CommandFault, LcovVersion, Limits, Names, Overview,
+    PageOptions, SourceFilter, Strictness, TextFormat, TextSize, TotalsForm, command,
 };
 use std::alloc::Global;
 use std::fmt::Write;

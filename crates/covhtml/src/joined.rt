@@ -62,27 +62,27 @@ impl<'s, A: Allocator + Copy> Points<'s, A> {
 /// A point that several tests may have.
 trait TestedPoint: Copy {
     // The point as plain data.
-    ghost Data: { Type 0 };
+    ghost Value: { Type 0 };
 
-    ghost data: { Self → Data };
+    ghost value: { Self → Value };
 
-    ghost order: { Data → Data → Ordered };
+    ghost order: { Value → Value → Ordered };
 
-    ghost sum: { Data → Data → Data };
+    ghost sum: { Value → Value → Value };
 
     /// How the point is ordered among those of its kind.
     fn compare(&self, other: &Self) -> Ordering
-        ensures { result ≡ order (data self.now) (data other.now) };
+        ensures { result ≡ order (value self.now) (value other.now) };
 
     /// The point with the counts of both.
     fn plus(&self, other: &Self) -> Self
-        ensures { data result ≡ sum (data self.now) (data other.now) };
+        ensures { value result ≡ sum (value self.now) (value other.now) };
 }
 
 impl<'s> TestedPoint for FunctionValue<'s> {
-    ghost Data = { FunctionValueData };
+    ghost Value = { FunctionValueData };
 
-    ghost data = { function_data };
+    ghost value = { function_data };
 
     ghost order = { function_order };
 
@@ -102,9 +102,9 @@ impl<'s> TestedPoint for FunctionValue<'s> {
 }
 
 impl TestedPoint for BranchValue {
-    ghost Data = { BranchValueData };
+    ghost Value = { BranchValueData };
 
-    ghost data = { branch_data };
+    ghost value = { branch_data };
 
     ghost order = { branch_order };
 
@@ -127,9 +127,9 @@ impl TestedPoint for BranchValue {
 }
 
 impl<'s> TestedPoint for LineValue<'s> {
-    ghost Data = { LineValueData };
+    ghost Value = { LineValueData };
 
-    ghost data = { line_data };
+    ghost value = { line_data };
 
     ghost order = { line_order };
 
@@ -165,7 +165,7 @@ fn merged<X: TestedPoint, A: Allocator>(
     one: &[X],
     other: &[X],
 ) -> Result<Vec<X, A>, Memory>
-    ensures { IfOk result (λ all. map X.data all.items ≡ merged_points X.order X.sum (map X.data one.now) (map X.data other.now)) }
+    ensures { IfOk result (λ all. map X.value all.items ≡ merged_points X.order X.sum (map X.value one.now) (map X.value other.now)) }
 {
     let mut all = Vec::new(alloc);
     let mut rest = other;
@@ -185,8 +185,8 @@ fn push_up_to<'r, X: TestedPoint, A: Allocator>(
     rest: &'r [X],
     all: &mut Vec<X, A>,
 ) -> Result<&'r [X], Memory>
-    ensures { IfOk result (λ after. (more : List X.Data → List X.Data) → map X.data all.new.items ++ more (map X.data after.now)
-        ≡ map X.data all.old.items ++ merged_after X.order X.sum (X.data point.now) more (map X.data rest.now)) }
+    ensures { IfOk result (λ after. (more : List X.Value → List X.Value) → map X.value all.new.items ++ more (map X.value after.now)
+        ≡ map X.value all.old.items ++ merged_after X.order X.sum (X.value point.now) more (map X.value rest.now)) }
 {
     let mut left = rest;
     while let Some((next, after)) = left.split_first() {

@@ -176,7 +176,11 @@ fn write_source<'s, F: Folder, T: PointsTable<Global>, D: OutputFolder>(
     let number = progress.entries.len() as u64 + 1;
     let name = page_name(work.alloc, number, file.path)?;
     let points = points_for(work, file.path)?;
-    let rows = rows_of(work.alloc, points.lines.as_slice(), points.branches.as_slice())?;
+    let rows = rows_of(
+        work.alloc,
+        points.lines.as_slice(),
+        points.branches.as_slice(),
+    )?;
     let source = source_for(work, file.path, rows.as_slice(), &mut progress.complaints)?;
     let page = SourcePage {
         path: file.path,

@@ -46,4 +46,14 @@ impl Collected {
         assert!(rt; self.is_whole, "out of memory");
         check_bytes(rt, self.text.get(), wanted);
     }
+
+    /// Checks that `wanted` is a part of what was printed.
+    pub(super) fn check_part(&self, rt: &impl Abort, wanted: &[u8]) {
+        let text = self.text.get();
+        assert!(rt; self.is_whole, "out of memory");
+        assert!(rt;
+            text.windows(wanted.len()).any(|part| part == wanted),
+            "another page"
+        );
+    }
 }

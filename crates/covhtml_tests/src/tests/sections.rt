@@ -1,12 +1,14 @@
 //! Pages of sections.
 
+ghost use Rattle.covtable.specs.Totals.{AreTotals};
+
 use super::collected::Collected;
 use super::made;
 use covdata::{Memory, Submission};
-use covhtml::{Row, SourcePage};
+use covhtml::{Points, PointsTable, Row, SectionPoints, SourcePage};
 use covread::{ReadFault, read_trace};
-use covstore::{Section, Store};
-use covtable::{BranchValue, FunctionValue, Totals};
+use covstore::Store;
+use covtable::{BranchValue, LineValue, Totals};
 use std::alloc::Global;
 use std::process::Abort;
 use std::test::*;
@@ -84,42 +86,47 @@ fn stored(rt: &(impl Abort + AllocGlobal), given: &Submission) -> Store {
     store
 }
 
-/// Calls `branches_of` without its contract.
-fn branches(alloc: Global, section: &Section<'_>) -> Result<Vec<BranchValue>, Memory> {
-    covhtml::branches_of(alloc, section)
+/// Calls `sections_of` without its contract.
+fn sections<'s>(
+    alloc: Global,
+    store: &'s Store,
+    file: &[u8],
+) -> Result<Vec<SectionPoints<'s, Global>>, Memory> {
+    store.sections_of(alloc, file)
 }
 
-/// Calls `functions_of` without its contract.
-fn functions<'a>(alloc: Global, section: &Section<'a>) -> Result<Vec<FunctionValue<'a>>, Memory> {
-    covhtml::functions_of(alloc, section)
+/// Calls `joined` without its contract.
+fn points<'s>(
+    alloc: Global,
+    sections: Vec<SectionPoints<'s, Global>>,
+) -> Result<Points<'s, Global>, Memory> {
+    covhtml::joined(alloc, sections)
 }
 
 /// Calls `rows_of` without its contract.
 fn rows<'b>(
     alloc: Global,
-    section: &Section<'_>,
+    lines: &[LineValue<'_>],
     branches: &'b [BranchValue],
 ) -> Result<Vec<Row<'b>>, Memory> {
-    covhtml::rows_of(alloc, section, branches)
+    covhtml::rows_of(alloc, lines, branches)
 }
 
-/// Prints the page of a section.
-fn printed(rt: &(impl Abort + AllocGlobal), section: &Section<'_>) -> Collected {
+/// Prints the page of the file `path`, which has these totals.
+fn printed(rt: &(impl Abort + AllocGlobal), store: &Store, path: &[u8], totals: Totals) -> Collected
+    requires { AreTotals totals }
+{
     let alloc = rt.alloc();
-    let branches = made(rt, branches(alloc, section));
-    let functions = made(rt, functions(alloc, section));
-    let rows = made(rt, rows(alloc, section, branches.as_slice()));
+    let sections = made(rt, sections(alloc, store, path));
+    let points = made(rt, points(alloc, sections));
+    let rows = made(
+        rt,
+        rows(alloc, points.lines.as_slice(), points.branches.as_slice()),
+    );
     let page = SourcePage {
-        path: section.file(),
-        totals: Totals {
-            lf: 3,
-            lh: 2,
-            ff: 1,
-            fh: 1,
-            bf: 4,
-            bh: 2,
-        },
-        functions: functions.as_slice(),
+        path,
+        totals,
+        functions: points.functions.as_slice(),
         rows: rows.as_slice(),
         source: b"if\nnot",
     };
@@ -132,8 +139,75 @@ fn printed(rt: &(impl Abort + AllocGlobal), section: &Section<'_>) -> Collected 
 fn a_section_with_all_kinds_of_points(rt: HostRuntime) {
     let given = made(&rt, read(rt.alloc(), TRACE));
     let store = stored(&rt, &given);
-    let Some(section) = store.sections().next() else {
-        panic!(rt; "no section");
+    let totals = Totals {
+        lf: 3,
+        lh: 2,
+        ff: 1,
+        fh: 1,
+        bf: 4,
+        bh: 2,
     };
-    printed(&rt, &section).check(&rt, PAGE);
+    printed(&rt, &store, b"a.c", totals).check(&rt, PAGE);
+}
+
+/// A file in two tests, beside another file. Both tests have line 2, function `g` and branch 0 of line 2.
+const TESTS: &[u8] = b"\
+TN:one
+SF:a.c
+FN:4,g
+FNDA:1,g
+BRDA:2,0,0,-
+BRDA:2,0,1,3
+DA:1,0
+DA:2,5
+end_of_record
+TN:two
+SF:a.c
+FN:3,g
+FN:1,h
+FNDA:2,g
+FNDA:0,h
+BRDA:2,0,0,4
+DA:2,100000
+DA:3,0
+end_of_record
+TN:two
+SF:b.c
+DA:1,9
+end_of_record
+";
+
+/// The rows of its functions and lines: the counts of both tests, and the least start line of `g`.
+const SUMS: [&[u8]; 2] = [
+    b"<tr><td>g<td><a href=\"#L3\">3</a><td>3\n<tr><td>h<td><a href=\"#L1\">1</a><td>0\n",
+    b"<tr id=\"L1\" class=\"n\"><td><a href=\"#L1\">1</a><td>0 <a href=\"#L3\" title=\"next line not run\">&darr;3</a><td><td>if
+<tr id=\"L2\" class=\"y\"><td><a href=\"#L2\">2</a><td title=\"100005\">1.0e5<td title=\"taken 4 3\">2/2<td>not
+<tr id=\"L3\" class=\"n\"><td><a href=\"#L3\">3</a><td>0<td><td>
+",
+];
+
+#[test]
+fn tests_of_a_file_are_added_up(rt: HostRuntime) {
+    let given = made(&rt, read(rt.alloc(), TESTS));
+    let store = stored(&rt, &given);
+    let totals = Totals {
+        lf: 3,
+        lh: 1,
+        ff: 2,
+        fh: 1,
+        bf: 2,
+        bh: 2,
+    };
+    let page = printed(&rt, &store, b"a.c", totals);
+    for rows in SUMS {
+        page.check_part(&rt, rows);
+    }
+}
+
+#[test]
+fn a_file_without_points_has_no_sections(rt: HostRuntime) {
+    let given = made(&rt, read(rt.alloc(), TESTS));
+    let store = stored(&rt, &given);
+    let sections = made(&rt, sections(rt.alloc(), &store, b"c.c"));
+    assert!(rt; sections.is_empty());
 }

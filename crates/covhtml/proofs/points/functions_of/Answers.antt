@@ -2,7 +2,7 @@ use Rattle.std.proofs.Common.{◌++◌, List, map, ap, ◌∙◌}
 use Rattle.covtable.specs.ValuesView.{function_data}
 use Rattle.covtable.specs.declared.values.FunctionValue.{FunctionValue}
 use Rattle.covhtml.proofs.Fronts.{collected, collects}
-use Rattle.covhtml.proofs.section_rows.functions_of.Goals as goal
+use Rattle.covhtml.proofs.points.functions_of.Goals as goal
 
 pub loop-function-init : goal.loop-function-init
 loop-function-init g c =

@@ -2,7 +2,7 @@ use Rattle.std.proofs.Common.{◌++◌, List, map, ap, ◌∙◌}
 use Rattle.covtable.specs.ValuesView.{branch_data}
 use Rattle.covtable.specs.declared.values.BranchValue.{BranchValue}
 use Rattle.covhtml.proofs.Fronts.{collected, collects}
-use Rattle.covhtml.proofs.section_rows.branches_of.Goals as goal
+use Rattle.covhtml.proofs.points.branches_of.Goals as goal
 
 pub loop-branch-init : goal.loop-branch-init
 loop-branch-init g c =
