@@ -27,7 +27,7 @@ impl<'s, T: Table<Global>> Model for ReadyText<'s, T> {
 }
 
 impl<'s, T: Table<Global>> ReadyText<'s, T> {
-    ghost use Rattle.std.specs.Prelude.{◌≡◌, ◌<◌, ◌^◌, IfOk, IfErr, OnOk, OnErr, suc};
+    ghost use Rattle.std.specs.Prelude.{◌≡◌, ◌<◌, ◌^◌, [], IfOk, IfErr, OnOk, OnErr, suc};
     ghost use Rattle.std.specs.Io.KnownBytes.{Appends};
     ghost use Rattle.covsession.specs.Fault.{HasBegun};
     ghost use Rattle.covsession.specs.declared.session.fault.SessionFault.TheVariants as session_faults;
@@ -38,6 +38,14 @@ impl<'s, T: Table<Global>> ReadyText<'s, T> {
     {
         let block = Block::new(alloc)?;
         Ok(ReadyText { text, block })
+    }
+
+    /// The text, and the empty buffer that printing uses.
+    pub(crate) fn into_parts(self) -> (Printing<'s, Global, T>, Block)
+        ensures text { result.0 ≡ self.entry }
+        ensures empty { result.1 ≡ [] }
+    {
+        (self.text, self.block)
     }
 
     /// Prints the text and flushes the output. Never allocates.
