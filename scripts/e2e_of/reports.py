@@ -2,7 +2,7 @@
 
 Each function is a job: it is handed a player and a folder of its own, where `a.info` and `b.info` are tracefiles of one source file each.
 """
-import os, re, signal, subprocess, time
+import os, re, signal, stat, subprocess, time
 from e2e_of.made import lines_of, written
 from e2e_of.player import PATIENCE
 
@@ -38,8 +38,9 @@ END = "</tbody>\n</table>\n"
 def report_of(name):
     """The files of the folder, whose style sheet isn't looked into, for a source file `NAME.c` of one line that was run once."""
     page = f"file-{name}.c.html"
-    row = f'<tr><th scope="row"><a href="{page}">{name}.c</a><td>{METER}<td>100.0%<td>1/1<td>-<td>0/0<td>-<td>0/0\n'
-    index = f"{HEAD % 'Coverage'}<h1>Coverage</h1>\n{CARDS}<details open>\n<summary>. 100.0%</summary>\n{FILES}{row}{END}</details>\n</body>\n</html>\n"
+    cells = f"<td>{METER}<td>100.0%<td>1/1<td>-<td>0/0<td>-<td>0/0\n"
+    rows = f'<tr><th scope="row"><a href="{page}">{name}.c</a>{cells}<tr><th scope="row">Total{cells}'
+    index = f"{HEAD % 'Coverage'}<h1>Coverage</h1>\n{CARDS}<details open>\n<summary>. 100.0%</summary>\n{FILES}{rows}{END}</details>\n</body>\n</html>\n"
     line = f'<tr id="L1" class="y"><td><a href="#L1">1</a><td>1<td><td>{name}\n'
     nav = '<nav><a href="index.html">All files</a></nav>\n'
     source = f"{HEAD % f'{name}.c'}{nav}<h1>{name}.c</h1>\n{CARDS}{LINES}{line}{END}</body>\n</html>\n"
@@ -83,6 +84,12 @@ def whole_folders(player, folder):
         player.row("report: whose folder's name isn't text")
         if sorted(os.listdir(inner + b"/out")) != sorted(map(os.fsencode, (*report_of(it), "style.css"))):
             player.differs(f"there are {os.listdir(inner + b'/out')}")
+    # The new folder has the rights of the older one.
+    for mode in (0o700, 0o2750, 0o755):
+        os.chmod(f"{folder}/new", mode)
+        player.shell("rights", folder, '"$0" html b.info -o new', NOTHING)
+        if stat.S_IMODE(os.stat(f"{folder}/new").st_mode) != mode:
+            player.differs(f"the mode is {os.stat(f'{folder}/new').st_mode:o}")
     # The same input gives the same bytes.
     player.shell("same", folder, '"$0" html b.info -o one; "$0" html b.info -o two; diff -r one two', NOTHING)
 

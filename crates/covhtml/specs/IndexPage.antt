@@ -48,9 +48,16 @@ abbrev pub directory_start : DirectoryData → List ℕ
 directory_start directory =
     DIRECTORY.now ++ shown directory.path ++ codes " " ++ rate directory.totals.lh directory.totals.lf ++ FILES.now
 
--- a directory with its files, which can be opened and closed
+-- the totals of a directory
+abbrev pub total_row : Totals → List ℕ
+total_row totals = codes "<tr><th scope=\"row\">Total" ++ totals_cells totals
+
+abbrev pub directory_rows : DirectoryData → List ℕ
+directory_rows directory = flat_map file_row directory.files ++ total_row directory.totals
+
+-- a directory with its files and its totals, which can be opened and closed
 abbrev pub directory_part : DirectoryData → List ℕ
-directory_part directory = directory_start directory ++ flat_map file_row directory.files ++ TABLE_END.now ++ codes "</details>\n"
+directory_part directory = directory_start directory ++ directory_rows directory ++ TABLE_END.now ++ codes "</details>\n"
 
 -- the date, if one is given
 abbrev pub date_line : Option (List ℕ) → List ℕ

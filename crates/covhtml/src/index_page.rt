@@ -1,7 +1,8 @@
 //! Prints the index of source files.
 
 ghost use Rattle.std.specs.Prelude.{◌≡◌, ◌++◌, flat_map, map, option_map};
-ghost use Rattle.covhtml.specs.IndexPage.{begins_name as begins_name_after, date_line, directory_part, directory_start, file_row, index_page, name_of as name_of_path};
+ghost use Rattle.covhtml.specs.IndexPage.{begins_name as begins_name_after, date_line, directory_part, directory_rows, directory_start, file_row, index_page, name_of as name_of_path, total_row};
+ghost use Rattle.covtable.specs.Totals.{AreTotals};
 ghost use Rattle.covhtml.specs.PagesView.{directory_data, index_page_data, indexed_file_data};
 
 use crate::frame::{put_head, put_heading};
@@ -10,10 +11,11 @@ use crate::pages::{Directory, IndexPage, IndexedFile};
 use crate::rates::{put_cards, put_rate, put_totals_cells};
 use crate::shown::put_shown;
 use covreport::Printer;
+use covtable::Totals;
 
 /// Prints the index: the title, the date if one is given, the totals, and the directories. A directory has its rate of lines hit,
-/// can be opened and closed, and has a row for each of its files, with a link to the file's page and the file's totals. Never
-/// allocates.
+/// can be opened and closed, and has a row for each of its files, with a link to the file's page and the file's totals. Its own
+/// totals come last. Never allocates.
 pub fn put_index_page<P: Printer>(page: &IndexPage<'_>, out: &mut P)
     ensures { P.text out.new ≡ P.text out.old ++ index_page (index_page_data page.now) }
 {
@@ -51,7 +53,7 @@ fn put_directory<P: Printer>(directory: &Directory<'_>, out: &mut P)
     ensures { P.text out.new ≡ P.text out.old ++ directory_part (directory_data directory.now) }
 {
     put_directory_start(directory, out);
-    put_files(directory.files, out);
+    put_directory_rows(directory, out);
     out.put(TABLE_END);
     out.put(b"</details>\n");
 }
@@ -65,6 +67,23 @@ fn put_directory_start<P: Printer>(directory: &Directory<'_>, out: &mut P)
     out.put(b" ");
     put_rate(directory.totals.lh, directory.totals.lf, out);
     out.put(FILES);
+}
+
+/// Prints the rows of a directory: its files, and then its totals.
+fn put_directory_rows<P: Printer>(directory: &Directory<'_>, out: &mut P)
+    ensures { P.text out.new ≡ P.text out.old ++ directory_rows (directory_data directory.now) }
+{
+    put_files(directory.files, out);
+    put_total(&directory.totals, out);
+}
+
+/// Prints the row of totals.
+fn put_total<P: Printer>(totals: &Totals, out: &mut P)
+    requires { AreTotals totals.now }
+    ensures { P.text out.new ≡ P.text out.old ++ total_row totals.now }
+{
+    out.put(b"<tr><th scope=\"row\">Total");
+    put_totals_cells(totals, out);
 }
 
 /// Prints the rows of files.

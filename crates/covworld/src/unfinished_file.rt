@@ -108,15 +108,22 @@ fn target_of<R: Files + AllocGlobal>(rt: &R, name: &str) -> Result<Target, Outpu
 /// The new file gives its group no rights if it can't have the old group.
 fn keep_rights<R: Files>(rt: &R, from: &str, file: &R::File, old: &Metadata) -> io::Result<()> {
     let made = file.metadata()?;
-    let mut mode = old.permissions().mode() & 0o777;
+    let mode = keep_owner(rt, from, &made, old) & 0o777;
+    file.set_permissions(Permissions::from_mode(mode))
+}
+
+/// Gives what was `made` as `from` the owner and group of the `old` one, as far as the user may set them. Returns the mode of the
+/// old one, without rights for the group if the new one can't have the old group.
+pub(crate) fn keep_owner<R: Files>(rt: &R, from: &str, made: &Metadata, old: &Metadata) -> u32 {
+    let mut mode = old.permissions().mode();
     if made.gid() != old.gid() && rt.lchown(from, None, Some(old.gid())).is_err() {
-        mode &= 0o707;
+        mode &= !0o070;
     }
     if made.uid() != old.uid() {
         // Only root can do this. For anyone else, the file belongs to the user.
         let _ = rt.lchown(from, Some(old.uid()), None);
     }
-    file.set_permissions(Permissions::from_mode(mode))
+    mode
 }
 
 /// Begins a file with a `name` that no file has. Fails for a symbolic link that leads nowhere.

@@ -10,15 +10,16 @@ use crate::folder_writer::FolderFault;
 use crate::named_file::{CreatedFolder, PlacedFolder, Target};
 use crate::output_folder::{OutputFault, OutputFolder};
 use crate::unfinished_file::{
-    UnfinishedFile, abandon_file, begin_inside, name_beside, put_path, store_inside,
+    UnfinishedFile, abandon_file, begin_inside, keep_owner, name_beside, put_path, store_inside,
 };
 use covdata::{Bytes, Memory};
 use covsession::put_bytes;
 use std::alloc::{AllocError, AllocGlobal};
 use std::collections::BTreeSet;
-use std::fs::read_dir;
+use std::fs::{Permissions, read_dir};
 use std::io;
 use std::io::ErrorKind;
+use std::os::unix::fs::PermissionsExt;
 use std::random::RandomSource;
 use std::rt::Files;
 
@@ -162,6 +163,10 @@ pub(crate) fn begin_folder<'a, R: Files + RandomSource + AllocGlobal>(
     let old = old_files(rt, target.path())?;
     let from = name_beside(rt, target.path(), ".part")?;
     let folder = CreatedFolder::create(rt, from.as_str())?;
+    if keep_rights(rt, from.as_str(), target.path()).is_err() {
+        let _ = rt.remove_dir(from.as_str());
+        return Err(FolderFault::Failed);
+    }
     Ok(UnfinishedFolder {
         rt,
         from,
@@ -172,6 +177,16 @@ pub(crate) fn begin_folder<'a, R: Files + RandomSource + AllocGlobal>(
         begun: None,
         failed: 0,
     })
+}
+
+/// Gives the folder `from`, which has no files yet, the rights, owner and group of the folder `old`, if there is one. The owner may
+/// always write to it.
+fn keep_rights<R: Files>(rt: &R, from: &str, old: &str) -> io::Result<()> {
+    let Ok(old) = rt.metadata(old) else {
+        return Ok(());
+    };
+    let mode = keep_owner(rt, from, &rt.metadata(from)?, &old) & 0o7777;
+    rt.set_permissions(from, Permissions::from_mode(mode | 0o700))
 }
 
 /// The path of the folder called `name`, whose last name can be changed. Fails for a file, and for a symbolic link that leads
