@@ -248,10 +248,10 @@ impl CreatedFolder {
         })
     }
 
-    /// Notes `_file`, which was stored in this folder, whose path is `path`, under the name `name`.
-    pub(crate) fn note(&mut self, _file: StoredFile, path: &str, name: &str)
-        requires folder { self.old.path.bytes ≡ path.now }
-        requires file { _file.name.bytes ≡ path_in path.now name.now }
+    /// Notes `_file`, which was stored in this folder, whose path is `_path`, under the name `name`.
+    pub(crate) fn note(&mut self, _file: StoredFile, _path: &str, name: &str)
+        requires folder { self.old.path.bytes ≡ _path.now }
+        requires file { _file.name.bytes ≡ path_in _path.now name.now }
         ensures path { self.new.path ≡ self.old.path }
         ensures files { self.new.files.all ≡ self.old.files.all ++ name.now ∷ [] }
     {
