@@ -13,7 +13,8 @@ use covdata::{Bytes, MAX_BYTES, Memory};
 use covhtml::Row;
 use covline::lines;
 use covlist::put_shown_name;
-use covworld::{FileFault, Folder, file_text};
+use covstream::BlockFault;
+use covworld::{Folder, file_text};
 use std::alloc::Global;
 
 /// What came of reading a source file.
@@ -53,8 +54,8 @@ pub(crate) fn read_source<F: Folder>(
         Ok(text) if text.get().len() > MAX_BYTES => Ok(Source::Unreadable),
         Ok(text) if has_lines(text.get(), rows) => Ok(Source::Text(text)),
         Ok(_) => Ok(Source::Short),
-        Err(FileFault::Unreadable(_)) => Ok(Source::Unreadable),
-        Err(FileFault::Memory) => Err(Memory),
+        Err(BlockFault::Unreadable) => Ok(Source::Unreadable),
+        Err(BlockFault::Memory) => Err(Memory),
     }
 }
 

@@ -4,7 +4,7 @@ ghost use Rattle.std.specs.Prelude.{◌≡◌, ◌<◌, ◌^◌, ◌++◌, ◌�
 ghost use Rattle.std.specs.String.{string_bytes};
 ghost use Rattle.covworld.specs.OutputFiles.{CountsFault, list_name};
 
-use crate::files::{FileFault, file_text};
+use crate::files::file_text;
 use crate::folder::FromFiles;
 use crate::folder_writer::FolderFault;
 use crate::named_file::{CreatedFolder, PlacedFolder, Target};
@@ -14,6 +14,7 @@ use crate::unfinished_file::{
 };
 use covdata::{Bytes, Memory};
 use covsession::put_bytes;
+use covstream::{BlockFault, Sink};
 use std::alloc::{AllocError, AllocGlobal};
 use std::collections::BTreeSet;
 use std::fs::{Permissions, read_dir};
@@ -259,8 +260,8 @@ fn old_listing<R: Files + AllocGlobal>(rt: &R, path: &str) -> Result<Bytes, Fold
     let name = path_of_file(rt, path, LIST_NAME)?;
     match file_text(&FromFiles::new(rt), rt.alloc(), name.as_str()) {
         Ok(listing) => Ok(listing),
-        Err(FileFault::Unreadable(_)) => Err(FolderFault::Foreign),
-        Err(FileFault::Memory) => Err(FolderFault::Memory),
+        Err(BlockFault::Unreadable) => Err(FolderFault::Foreign),
+        Err(BlockFault::Memory) => Err(FolderFault::Memory),
     }
 }
 
