@@ -1,5 +1,5 @@
 -- The folder that `html` writes.
-use Rattle.std.specs.Prelude.{◌≡◌, ◌⊎◌, ⊥, ℕ, ◌+◌, Bool, true, false, not, ◌==◌, Option, Some, List, [], ◌∷◌, ◌++◌, length, codes, filter, unwrap_or}
+use Rattle.std.specs.Prelude.{◌≡◌, ◌⊎◌, ⊥, ℕ, ◌+◌, Bool, true, false, not, ◌==◌, Option, Some, List, [], ◌∷◌, ◌++◌, length, codes, unwrap_or}
 use Rattle.covcommand.specs.declared.asked.Strictness.{Strictness}
 use Rattle.covcommand.specs.declared.asked.Strictness.TheVariants.{Lenient, Strict}
 use Rattle.covhtml.specs.IndexPage.{IndexedFileData, index_page}
@@ -13,10 +13,11 @@ use Rattle.covpages.specs.Directories.{directories_of}
 use Rattle.covpages.specs.Sources.{SourceData, IsSource, complaint_of, located_by, rules_of, shown_text}
 use Rattle.covpages.specs.declared.fault.PagesFault.{PagesFault}
 use Rattle.covpages.specs.declared.fault.PagesFault.TheVariants as faults
-use Rattle.covreport.specs.Choice.{ChoiceData, is_chosen}
+use Rattle.covlist.specs.Chosen.{chosen_files, totals_of_chosen}
+use Rattle.covreport.specs.Choice.{ChoiceData}
 use Rattle.covtable.specs.Content.{SectionData}
-use Rattle.covtable.specs.Files.{FileTotalsData, files_with_totals}
-use Rattle.covtable.specs.Totals.{own_sections, totals_of}
+use Rattle.covtable.specs.Files.{FileTotalsData}
+use Rattle.covtable.specs.Totals.{own_sections}
 use Rattle.covtable.specs.declared.totals.Totals.{Totals}
 use Rattle.covworld.specs.Folder.{FolderData}
 use Rattle.covworld.specs.OutputFiles.{IsFolderWritten, OutputFilesData}
@@ -36,9 +37,9 @@ pub record PagesWorkData : Type 1 where
   pub strictness : Strictness
   pub sources : FolderData
 
--- the source files that are shown, each with its totals
+-- the source files that are shown, each with its totals: those of a list
 abbrev pub files_shown : PagesWorkData → List SectionData → List FileTotalsData
-files_shown work sections = filter (λ f. is_chosen work.choice f.path) (files_with_totals sections)
+files_shown work sections = chosen_files work.choice sections
 
 -- the points of a source file over all tests
 abbrev pub points_at : List SectionData → (path : List ℕ) → PointsData
@@ -93,8 +94,8 @@ index_with title date totals files = index_page (record {
 
 -- the index of the source files that are shown
 abbrev pub index_of : PagesWorkData → List SectionData → List ℕ
-index_of work sections = index_with work.title work.date
-    (totals_of (filter (λ s. is_chosen work.choice s.key.file) sections)) (indexed_after 0 (files_shown work sections))
+index_of work sections =
+    index_with work.title work.date (totals_of_chosen work.choice sections) (indexed_after 0 (files_shown work sections))
 
 -- the files of the folder
 abbrev pub files_of : PagesWorkData → List SectionData → List SourceData → List (List ℕ × List ℕ)

@@ -1,6 +1,6 @@
 //! Writes the folder of pages.
 
-ghost use Rattle.std.specs.Prelude.{◌≡◌, ◌<◌, ◌^◌, ◌++◌, [], ◌∷◌, None, IfErr, IfOk, OnErr, OnOk, codes, filter, map, option_map, unwrap_or};
+ghost use Rattle.std.specs.Prelude.{◌≡◌, ◌<◌, ◌^◌, ◌++◌, [], ◌∷◌, None, IfErr, IfOk, OnErr, OnOk, codes, map, option_map, unwrap_or};
 ghost use Rattle.covhtml.specs.PagesView.{source_page_data};
 ghost use Rattle.covhtml.specs.Points.{points_of};
 ghost use Rattle.covhtml.specs.PointsView.{points_data};
@@ -11,7 +11,7 @@ ghost use Rattle.covpages.specs.Pages.{IsPagesFault, IsWritten, files_shown, ind
 ghost use Rattle.covpages.specs.Sources.{complaint_of, located_by, rules_of, IsSource};
 ghost use Rattle.covpages.specs.Steps.{IsNext, IsReport, IsSoFar};
 ghost use Rattle.covpages.specs.View.{entry_data, progress_data, source_data, work_data};
-ghost use Rattle.covreport.specs.Choice.{is_chosen};
+ghost use Rattle.covlist.specs.Chosen.{totals_of_chosen};
 ghost use Rattle.covreport.specs.ChoiceView.{choice_data};
 ghost use Rattle.covtable.specs.Files.{files_with_totals};
 ghost use Rattle.covtable.specs.Totals.{AreTotals, own_sections, totals_of};
@@ -255,7 +255,7 @@ fn write_index<F, T: PointsTable<Global>, D: OutputFolder>(
     requires few { D.failed report.old < 2 ^ 62 }
     requires bounds { AreTotals (totals_together (map entry_data entries.now)) }
     ensures index { OnOk result (Finishes (codes "index.html") (index_with work.now.options.now.title work.now.options.now.date
-        (totals_of (filter (λ s. is_chosen (choice_data work.now.choice.now) s.key.file) (T.shown work.now.table.now).sections)) (map entry_data entries.now)) (D.finished report.old) (D.finished report.new)) }
+        (totals_of_chosen (choice_data work.now.choice.now) (T.shown work.now.table.now).sections) (map entry_data entries.now)) (D.finished report.old) (D.finished report.new)) }
     ensures named { OnOk result (AddsName (codes "index.html") (D.names report.old) (D.names report.new)) }
     ensures none { D.begun report.new ≡ None }
     ensures good { OnOk result (D.failed report.new ≡ D.failed report.old) }
