@@ -39,7 +39,7 @@ def report_of(name):
     """The files of the folder, whose style sheet isn't looked into, for a source file `NAME.c` of one line that was run once."""
     page = f"file-{name}.c.html"
     cells = f"<td>{METER}<td>100.0%<td>1/1<td>-<td>0/0<td>-<td>0/0\n"
-    rows = f'<tr><th scope="row"><a href="{page}">{name}.c</a>{cells}<tr><th scope="row">Total{cells}'
+    rows = f'<tr><th scope="row"><a href="{page}">{name}.c</a>{cells}<tr class="t"><th scope="row">Total{cells}'
     index = f"{HEAD % 'Coverage'}<h1>Coverage</h1>\n{CARDS}<details open>\n<summary>. 100.0%</summary>\n{FILES}{rows}{END}</details>\n</body>\n</html>\n"
     line = f'<tr id="L1" class="y"><td><a href="#L1">1</a><td>1<td><td>{name}\n'
     nav = '<nav><a href="index.html">All files</a></nav>\n'
@@ -174,6 +174,36 @@ def is_report(folder, name):
     return all(os.path.exists(f"{folder}/out/{it}") and open(f"{folder}/out/{it}", "rb").read() == text for it, text in report_of(name).items())
 
 
+def many_files(player, folder):
+    """The index lists 500 files itself. With one more, it lists their directories, each of which has a page."""
+    paths = [f"d{it % 3}/f{it}.c" for it in range(501)]
+    for number in (500, 501):
+        text = "".join(f"SF:{it}\nDA:1,1\nDA:2,0\nend_of_record\n" for it in paths[:number])
+        written(f"{folder}/many.info", [text.encode()])
+        player.shell("many", folder, '"$0" html many.info -o many 2>told; status=$?; grep -v "^warning: " told; exit $status', (0, b"", b""))
+        index = open(f"{folder}/many/index.html").read()
+        pages = re.findall(r'<a href="([^"]*)">', index)
+        wanted = [f"file-d{it}~0a.html" for it in range(3)] if number > 500 else [f"file-{it.replace('/', '-')}.html" for it in by_directory(paths[:500])]
+        player.row(f"many: {number} files")
+        if pages != wanted or index.count("<details") != (0 if number > 500 else 3):
+            player.differs(f"the index has {pages}")
+        there = sorted(os.listdir(f"{folder}/many"))
+        if there != sorted(["covcollect-files.txt", "index.html", "style.css", *(f"file-{it.replace('/', '-')}.html" for it in paths[:number]), *wanted * (number > 500)]):
+            player.differs(f"there are {there}")
+    rows = re.findall(r'<a href="file-d1-f(\d*).c.html">f(\d*).c</a>', open(f"{folder}/many/file-d1~0a.html").read())
+    player.row("many: the page of a directory")
+    if rows != [(it, it) for it in sorted(str(it) for it in range(1, 501, 3))]:
+        player.differs(f"the page has {rows}")
+    row = 'file-d1~0a.html">d1</a><td><meter aria-hidden="true" max="1000" low="750" high="900" optimum="1000" value="500"></meter><td>50.0%<td>167/334<td>-<td>0/0<td>-<td>0/0\n'
+    if row not in index:
+        player.differs(f"the index has no {row}")
+
+
+def by_directory(paths):
+    """The paths in the order of their directories, and within each byte by byte."""
+    return sorted(paths, key=lambda it: (it.rpartition("/")[0], it))
+
+
 def with_tracefiles(part):
     """The part as a job, with two tracefiles and their source files in its folder."""
 
@@ -187,4 +217,4 @@ def with_tracefiles(part):
     return job
 
 
-JOBS = tuple(map(with_tracefiles, (whole_folders, foreign_folders, read_only_folders, failed_folders, killed_folders)))
+JOBS = tuple(map(with_tracefiles, (whole_folders, foreign_folders, read_only_folders, failed_folders, killed_folders, many_files)))

@@ -50,7 +50,7 @@ directory_start directory =
 
 -- the totals of a directory
 abbrev pub total_row : Totals → List ℕ
-total_row totals = codes "<tr><th scope=\"row\">Total" ++ totals_cells totals
+total_row totals = codes "<tr class=\"t\"><th scope=\"row\">Total" ++ totals_cells totals
 
 abbrev pub directory_rows : DirectoryData → List ℕ
 directory_rows directory = flat_map file_row directory.files ++ total_row directory.totals

@@ -10,4 +10,5 @@ pub mod Points
 pub mod PointsView
 pub mod SourcePage
 pub mod IndexPage
+pub mod DirectoryPages
 pub mod PagesView

@@ -2,9 +2,12 @@
 use Rattle.std.specs.Prelude.{map, option_map}
 use Rattle.covtable.specs.ValuesView.{function_data}
 use Rattle.covhtml.specs.declared.pages.Directory.{Directory}
+use Rattle.covhtml.specs.declared.pages.DirectoryIndex.{DirectoryIndex}
 use Rattle.covhtml.specs.declared.pages.IndexPage.{IndexPage}
+use Rattle.covhtml.specs.declared.pages.IndexedDirectory.{IndexedDirectory}
 use Rattle.covhtml.specs.declared.pages.IndexedFile.{IndexedFile}
 use Rattle.covhtml.specs.declared.pages.SourcePage.{SourcePage}
+use Rattle.covhtml.specs.DirectoryPages.{DirectoryIndexData, IndexedDirectoryData}
 use Rattle.covhtml.specs.IndexPage.{DirectoryData, IndexPageData, IndexedFileData}
 use Rattle.covhtml.specs.RowView.{row_data}
 use Rattle.covhtml.specs.SourcePage.{SourcePageData}
@@ -21,6 +24,17 @@ index_page_data page = record {
   date = option_map (λ d. d.now) page.date;
   totals = page.totals;
   directories = map directory_data page.directories.now;
+}
+
+abbrev pub indexed_directory_data : IndexedDirectory → IndexedDirectoryData
+indexed_directory_data directory = record { page = directory.page.now; path = directory.path.now; totals = directory.totals }
+
+abbrev pub directory_index_data : DirectoryIndex → DirectoryIndexData
+directory_index_data page = record {
+  title = page.title.now;
+  date = option_map (λ d. d.now) page.date;
+  totals = page.totals;
+  directories = map indexed_directory_data page.directories.now;
 }
 
 abbrev pub source_page_data : SourcePage → SourcePageData

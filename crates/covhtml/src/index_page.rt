@@ -28,7 +28,7 @@ pub fn put_index_page<P: Printer>(page: &IndexPage<'_>, out: &mut P)
 }
 
 /// Prints the date, if one is given.
-fn put_date<P: Printer>(date: Option<&[u8]>, out: &mut P)
+pub(crate) fn put_date<P: Printer>(date: Option<&[u8]>, out: &mut P)
     ensures { P.text out.new ≡ P.text out.old ++ date_line (option_map (λ d. d.now) date.entry) }
 {
     let Some(date) = date else {
@@ -82,12 +82,12 @@ fn put_total<P: Printer>(totals: &Totals, out: &mut P)
     requires { AreTotals totals.now }
     ensures { P.text out.new ≡ P.text out.old ++ total_row totals.now }
 {
-    out.put(b"<tr><th scope=\"row\">Total");
+    out.put(b"<tr class=\"t\"><th scope=\"row\">Total");
     put_totals_cells(totals, out);
 }
 
 /// Prints the rows of files.
-fn put_files<P: Printer>(files: &[IndexedFile<'_>], out: &mut P)
+pub(crate) fn put_files<P: Printer>(files: &[IndexedFile<'_>], out: &mut P)
     ensures { P.text out.new ≡ P.text out.old ++ flat_map file_row (map indexed_file_data files.now) }
 {
     for file in files {

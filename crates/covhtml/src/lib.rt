@@ -20,6 +20,7 @@
 #![tactic(auto)]
 
 mod cells;
+mod directory_pages;
 mod frame;
 mod index_page;
 mod joined;
@@ -37,10 +38,11 @@ mod source_page;
 mod source_rows;
 mod style_sheet;
 
+pub use directory_pages::{put_directory_index, put_directory_page};
 pub use index_page::{name_of, put_index_page};
 pub use joined::joined;
-pub use names::page_name;
-pub use pages::{Directory, IndexPage, IndexedFile, SourcePage};
+pub use names::{directory_page_name, page_name};
+pub use pages::{Directory, DirectoryIndex, IndexPage, IndexedDirectory, IndexedFile, SourcePage};
 pub use points::{Points, PointsTable, SectionPoints, section_points};
 pub use rows::Row;
 pub use section_rows::rows_of;

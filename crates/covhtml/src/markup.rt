@@ -35,6 +35,18 @@ pub(crate) const FILES: &[u8] = b"</summary>
 <tbody>
 ";
 
+/// The beginning of a table of files, up to its rows.
+pub(crate) const FILE_TABLE: &[u8] = b"<table class=\"files\">
+<thead><tr><th scope=\"col\">File<th scope=\"col\" colspan=\"3\">Lines<th scope=\"col\" colspan=\"2\">Functions<th scope=\"col\" colspan=\"2\">Branches</thead>
+<tbody>
+";
+
+/// The beginning of a table of directories, up to its rows.
+pub(crate) const DIRECTORIES: &[u8] = b"<table class=\"files\">
+<thead><tr><th scope=\"col\">Directory<th scope=\"col\" colspan=\"3\">Lines<th scope=\"col\" colspan=\"2\">Functions<th scope=\"col\" colspan=\"2\">Branches</thead>
+<tbody>
+";
+
 /// The beginning of the table of functions, up to its rows.
 pub(crate) const FUNCTIONS: &[u8] = b"<details>
 <summary>Functions</summary>

@@ -2,6 +2,7 @@
 
 ghost use Rattle.std.specs.Prelude.{◌≡◌, ◌<◌, ◌++◌, IfOk, OnOk, codes, decimal};
 ghost use Rattle.std.specs.Char.{digit_char};
+ghost use Rattle.covhtml.specs.DirectoryPages.{directory_page_name as name_of_directory};
 ghost use Rattle.covhtml.specs.PageName.{encoded_path, name_byte, page_name as name_of_page, stays as stays_in_names};
 
 use covdata::{Bytes, Memory};
@@ -33,6 +34,24 @@ pub fn page_name<A: Allocator + Copy>(
     } else {
         named_by_number(alloc, number)
     }
+}
+
+/// Returns the name of a directory's page, such as `file-src-lib~0a.html`: that of a source file's page for this path and a line
+/// feed, which the path of a source file doesn't have. `number` must be that of no source file.
+///
+/// # Errors
+///
+/// `Memory` if an allocation failed.
+pub fn directory_page_name<A: Allocator + Copy>(
+    alloc: A,
+    number: u64,
+    path: &[u8],
+) -> Result<Bytes<A>, Memory>
+    ensures { IfOk result (λ name. name ≡ name_of_directory number path.now) }
+{
+    let mut line = Bytes::of(alloc, path)?;
+    line.append(b"\n")?;
+    page_name(alloc, number, line.get())
 }
 
 /// The name that has this encoded path.

@@ -43,6 +43,32 @@ pub struct IndexPage<'a> {
     ghost are_totals: { AreTotals totals },
 }
 
+/// A directory in an index of directories.
+#[derive(Clone, Copy)]
+pub struct IndexedDirectory<'a> {
+    /// The name of the directory's page, as `directory_page_name` returns it.
+    pub page: &'a [u8],
+    /// The directory's path.
+    pub path: &'a [u8],
+    /// The totals of the directory's files.
+    pub totals: Totals,
+    ghost are_totals: { AreTotals totals },
+}
+
+/// The page that lists all directories, each of which has a page of its own.
+#[derive(Clone, Copy)]
+pub struct DirectoryIndex<'a> {
+    /// The title of the page.
+    pub title: &'a [u8],
+    /// A date that the page shows under its title, if any.
+    pub date: Option<&'a [u8]>,
+    /// The totals of all files.
+    pub totals: Totals,
+    /// The directories, in the order of their rows.
+    pub directories: &'a [IndexedDirectory<'a>],
+    ghost are_totals: { AreTotals totals },
+}
+
 /// The page of a source file.
 #[derive(Clone, Copy)]
 pub struct SourcePage<'a> {

@@ -1,8 +1,9 @@
 -- The folder that `html` writes.
-use Rattle.std.specs.Prelude.{◌≡◌, ◌⊎◌, ⊥, ℕ, ◌+◌, Bool, true, false, not, ◌==◌, Option, Some, List, [], ◌∷◌, ◌++◌, length, codes, unwrap_or}
+use Rattle.std.specs.Prelude.{◌≡◌, ◌⊎◌, ⊥, ℕ, ◌+◌, Bool, true, false, not, ◌==◌, Option, Some, List, [], ◌∷◌, ◌++◌, length, codes, nat_le, if◌then◌else◌, unwrap_or}
 use Rattle.covcommand.specs.declared.asked.Strictness.{Strictness}
 use Rattle.covcommand.specs.declared.asked.Strictness.TheVariants.{Lenient, Strict}
-use Rattle.covhtml.specs.IndexPage.{IndexedFileData, index_page}
+use Rattle.covhtml.specs.DirectoryPages.{IndexedDirectoryData, directory_index, directory_page, directory_page_name}
+use Rattle.covhtml.specs.IndexPage.{DirectoryData, IndexedFileData, index_page}
 use Rattle.covhtml.specs.PageName.{page_name}
 use Rattle.covhtml.specs.Points.{PointsData, points_of}
 use Rattle.covhtml.specs.Rows.{RowData}
@@ -92,15 +93,49 @@ index_with title date totals files = index_page (record {
   directories = directories_of files;
 })
 
--- the index of the source files that are shown
-abbrev pub index_of : PagesWorkData → List SectionData → List ℕ
-index_of work sections =
-    index_with work.title work.date (totals_of_chosen work.choice sections) (indexed_after 0 (files_shown work sections))
+-- the most source files that the index lists itself. With more, each directory has a page
+abbrev pub most_listed : ℕ
+most_listed = 500
+
+-- the page of each directory, under a name of its own. `number`: how many pages come before
+abbrev pub directory_pages : (number : ℕ) → List DirectoryData → List (List ℕ × List ℕ)
+directory_pages number [] = []
+directory_pages number (d ∷ directories) =
+    (directory_page_name (number + 1) d.path, directory_page d) ∷ directory_pages (number + 1) directories
+
+-- the row of each directory in the index
+abbrev pub linked_after : (number : ℕ) → List DirectoryData → List IndexedDirectoryData
+linked_after number [] = []
+linked_after number (d ∷ directories) =
+    record { page = directory_page_name (number + 1) d.path; path = d.path; totals = d.totals } ∷ linked_after (number + 1) directories
+
+-- the index of these directories, with the texts of the options
+abbrev pub directory_index_with : (title date : Option (List ℕ)) → Totals → List IndexedDirectoryData → List ℕ
+directory_index_with title date totals directories = directory_index (record {
+  title = unwrap_or title (codes "Coverage");
+  date = date;
+  totals = totals;
+  directories = directories;
+})
+
+-- the pages of these directories, and their index
+abbrev pub directory_files : (title date : Option (List ℕ)) → Totals → (number : ℕ) → List DirectoryData → List (List ℕ × List ℕ)
+directory_files title date totals number directories =
+    directory_pages number directories
+    ++ (codes "index.html", directory_index_with title date totals (linked_after number directories)) ∷ []
+
+-- the index of these files, behind the pages of their directories if these have some
+abbrev pub index_files : (title date : Option (List ℕ)) → Totals → List IndexedFileData → List (List ℕ × List ℕ)
+index_files title date totals files =
+    if nat_le (length files) most_listed
+    then (codes "index.html", index_with title date totals files) ∷ []
+    else directory_files title date totals (length files) (directories_of files)
 
 -- the files of the folder
 abbrev pub files_of : PagesWorkData → List SectionData → List SourceData → List (List ℕ × List ℕ)
 files_of work sections sources =
-    (codes "style.css", STYLE.now) ∷ pages_after 0 sections (files_shown work sections) sources ++ (codes "index.html", index_of work sections) ∷ []
+    (codes "style.css", STYLE.now) ∷ pages_after 0 sections (files_shown work sections) sources
+    ++ index_files work.title work.date (totals_of_chosen work.choice sections) (indexed_after 0 (files_shown work sections))
 
 -- the lines about source files whose texts aren't shown
 abbrev pub complaints_of : PagesWorkData → List FileTotalsData → List SourceData → List ℕ

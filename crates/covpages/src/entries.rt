@@ -1,13 +1,13 @@
 //! The source files that the index lists, by their directories.
 
 ghost use Rattle.std.specs.Prelude.{◌≡◌, ◌++◌, ◌≤◌, length, take, IfOk, OnOk, map};
-ghost use Rattle.covhtml.specs.PagesView.{directory_data, indexed_file_data};
+ghost use Rattle.covhtml.specs.PagesView.{directory_data, indexed_directory_data, indexed_file_data};
 ghost use Rattle.covpages.specs.Directories.{count_in as count_in_directory, directories_of, directory_of as directory_of_path, runs_of, sorted_files, totals_together};
-ghost use Rattle.covpages.specs.View.{entry_data};
+ghost use Rattle.covpages.specs.View.{entry_data, linked_data};
 ghost use Rattle.covtable.specs.Totals.{AreTotals};
 
 use covdata::{Bytes, Memory};
-use covhtml::{Directory, IndexedFile, name_of};
+use covhtml::{Directory, IndexedDirectory, IndexedFile, name_of};
 use covtable::Totals;
 use std::alloc::Global;
 
@@ -21,6 +21,36 @@ pub(crate) struct Entry<'s> {
     /// The file's totals.
     pub(crate) totals: Totals,
     ghost are_totals: { AreTotals totals },
+}
+
+/// A directory that has a page.
+#[derive(Drop)]
+pub(crate) struct Linked<'s> {
+    /// The name of the page.
+    pub(crate) page: Bytes,
+    /// The directory's path.
+    pub(crate) path: &'s [u8],
+    /// The totals of the directory's files.
+    pub(crate) totals: Totals,
+    ghost are_totals: { AreTotals totals },
+}
+
+/// The directories of an index of directories.
+pub(crate) fn indexed_directories<'e>(
+    alloc: Global,
+    linked: &'e [Linked<'e>],
+) -> Result<Vec<IndexedDirectory<'e>>, Memory>
+    ensures { IfOk result (λ directories. map indexed_directory_data directories.items ≡ map linked_data linked.now) }
+{
+    let mut directories = Vec::new(alloc);
+    for directory in linked {
+        directories.push(IndexedDirectory {
+            page: directory.page.get(),
+            path: directory.path,
+            totals: directory.totals,
+        })?;
+    }
+    Ok(directories)
 }
 
 /// The files of the index, by their directories, ascending. The files of a directory keep their order.

@@ -1,6 +1,9 @@
 //! The files of the folder, as texts.
 
-use covhtml::{IndexPage, STYLE, SourcePage, put_index_page, put_source_page};
+use covhtml::{
+    Directory, DirectoryIndex, IndexPage, STYLE, SourcePage, put_directory_index,
+    put_directory_page, put_index_page, put_source_page,
+};
 use covreport::Printer;
 use covworld::PrintedText;
 
@@ -9,6 +12,10 @@ use covworld::PrintedText;
 pub(crate) enum Page<'a> {
     /// `index.html`.
     Index(IndexPage<'a>),
+    /// `index.html` if directories have pages of their own.
+    Directories(DirectoryIndex<'a>),
+    /// The page of a directory.
+    Directory(Directory<'a>),
     /// The page of a source file.
     Source(SourcePage<'a>),
     /// `style.css`.
@@ -23,6 +30,8 @@ impl<'a> PrintedText for Page<'a> {
     fn print_to<P: Printer>(self, printer: &mut P) {
         match self {
             Page::Index(page) => put_index_page(&page, printer),
+            Page::Directories(page) => put_directory_index(&page, printer),
+            Page::Directory(page) => put_directory_page(&page, printer),
             Page::Source(page) => put_source_page(&page, printer),
             Page::Style => printer.put(STYLE),
         }

@@ -1,16 +1,15 @@
 //! Writes the folder of pages.
 
-ghost use Rattle.std.specs.Prelude.{◌≡◌, ◌<◌, ◌^◌, ◌++◌, [], ◌∷◌, None, IfErr, IfOk, OnErr, OnOk, codes, map, option_map, unwrap_or};
-ghost use Rattle.covhtml.specs.PagesView.{source_page_data};
+ghost use Rattle.std.specs.Prelude.{◌≡◌, ◌<◌, ◌^◌, ◌++◌, [], ◌∷◌, None, IfErr, IfOk, OnErr, OnOk, map, option_map, unwrap_or};
+ghost use Rattle.covhtml.specs.PagesView.{directory_data};
 ghost use Rattle.covhtml.specs.Points.{points_of};
 ghost use Rattle.covhtml.specs.PointsView.{points_data};
 ghost use Rattle.covhtml.specs.RowView.{row_data};
-ghost use Rattle.covhtml.specs.SourcePage.{source_page};
 ghost use Rattle.covpages.specs.Directories.{totals_together};
-ghost use Rattle.covpages.specs.Pages.{IsPagesFault, IsWritten, files_shown, index_with, is_refused};
+ghost use Rattle.covpages.specs.Pages.{IsPagesFault, IsWritten, directory_files, directory_pages, files_shown, index_files, is_refused, linked_after};
 ghost use Rattle.covpages.specs.Sources.{complaint_of, located_by, rules_of, IsSource};
-ghost use Rattle.covpages.specs.Steps.{IsNext, IsReport, IsSoFar};
-ghost use Rattle.covpages.specs.View.{entry_data, progress_data, source_data, work_data};
+ghost use Rattle.covpages.specs.Steps.{AreAdded, AreFinished, IsNext, IsReport, IsSoFar};
+ghost use Rattle.covpages.specs.View.{entry_data, linked_data, page_text, progress_data, source_data, work_data};
 ghost use Rattle.covlist.specs.Chosen.{totals_of_chosen};
 ghost use Rattle.covreport.specs.ChoiceView.{choice_data};
 ghost use Rattle.covtable.specs.Files.{files_with_totals};
@@ -19,18 +18,24 @@ ghost use Rattle.covtable.specs.ValuesView.{file_totals_data};
 ghost use Rattle.covworld.specs.Folder.{folder_data};
 ghost use Rattle.covworld.specs.OutputFiles.{AddsName, Finishes, output_files};
 
-use crate::entries::{Entry, directories, indexed};
+use crate::entries::{Entry, Linked, directories, indexed, indexed_directories};
 use crate::fault::PagesFault;
 use crate::page::Page;
 use crate::source_rule::located;
 use crate::source_text::{Source, put_complaint, read_source};
 use covcommand::{PageOptions, Strictness};
 use covdata::{Bytes, Memory};
-use covhtml::{IndexPage, Points, PointsTable, Row, SourcePage, joined, page_name, rows_of};
+use covhtml::{
+    Directory, DirectoryIndex, IndexPage, Points, PointsTable, Row, SourcePage,
+    directory_page_name, joined, page_name, rows_of,
+};
 use covreport::{Choice, chosen_totals};
 use covtable::FileTotals;
 use covworld::{Folder, FolderWriter, OutputFault, OutputFolder, write_text};
 use std::alloc::Global;
+
+/// The maximum number of source files that the index lists itself. With more, each directory has a page.
+const MOST_LISTED: usize = 500;
 
 /// The title of an index without `--title`.
 const TITLE: &[u8] = b"Coverage";
@@ -71,8 +76,9 @@ impl<'s> Progress<'s> {
 }
 
 /// Writes a folder of pages, and returns the warnings. The folder has `index.html`, `style.css`, and a page for each file that is
-/// shown. It replaces an older folder of pages as a whole, at the end. A page has no text if its source file can't be read, or has
-/// fewer lines than the counts: then there is a warning. A strict call is refused for such files.
+/// shown, and for each directory if these are more than 500 files. It replaces an older folder of pages as a whole, at the end. A
+/// page has no text if its source file can't be read, or has fewer lines than the counts: then there is a warning. A strict call is
+/// refused for such files.
 pub fn write_pages<F: Folder, T: PointsTable<Global>, P: FolderWriter>(
     work: &PagesWork<'_, F, T>,
     files: &mut P,
@@ -189,7 +195,7 @@ fn write_source<'s, F: Folder, T: PointsTable<Global>, D: OutputFolder>(
         rows: rows.as_slice(),
         source: source.text(),
     };
-    write_page(work.alloc, name.get(), page, report)?;
+    write_page(work.alloc, name.get(), Page::Source(page), report)?;
     progress.note(Entry {
         page: name,
         path: file.path,
@@ -209,22 +215,22 @@ fn points_for<'w, F, T: PointsTable<Global>>(
     joined(work.alloc, sections)
 }
 
-/// Writes a page of a source file into the file called `name`.
+/// Writes a page into the file called `name`.
 fn write_page<D: OutputFolder>(
     alloc: Global,
     name: &[u8],
-    page: SourcePage<'_>,
+    page: Page<'_>,
     report: &mut D,
 ) -> Result<(), OutputFault>
     requires free { D.begun report.old ≡ None }
     requires few { D.failed report.old < 2 ^ 62 }
-    ensures finished { OnOk result (Finishes name.now (source_page (source_page_data page)) (D.finished report.old) (D.finished report.new)) }
+    ensures finished { OnOk result (Finishes name.now (page_text page) (D.finished report.old) (D.finished report.new)) }
     ensures named { OnOk result (AddsName name.now (D.names report.old) (D.names report.new)) }
     ensures none { D.begun report.new ≡ None }
     ensures good { OnOk result (D.failed report.new ≡ D.failed report.old) }
 {
     match std::str::from_utf8(name) {
-        Ok(name) => write_text(alloc, name, Page::Source(page), report),
+        Ok(name) => write_text(alloc, name, page, report),
         Err(_) => Err(OutputFault::Failed),
     }
 }
@@ -245,7 +251,7 @@ fn source_for<F: Folder, T>(
     Ok(source)
 }
 
-/// Writes the index of these source files.
+/// Writes the index of these source files. If there are many, writes a page for each directory too.
 fn write_index<F, T: PointsTable<Global>, D: OutputFolder>(
     work: &PagesWork<'_, F, T>,
     entries: &[Entry<'_>],
@@ -254,14 +260,18 @@ fn write_index<F, T: PointsTable<Global>, D: OutputFolder>(
     requires free { D.begun report.old ≡ None }
     requires few { D.failed report.old < 2 ^ 62 }
     requires bounds { AreTotals (totals_together (map entry_data entries.now)) }
-    ensures index { OnOk result (Finishes (codes "index.html") (index_with work.now.options.now.title work.now.options.now.date
+    ensures index { OnOk result (AreFinished (index_files work.now.options.now.title work.now.options.now.date
         (totals_of_chosen (choice_data work.now.choice.now) (T.shown work.now.table.now).sections) (map entry_data entries.now)) (D.finished report.old) (D.finished report.new)) }
-    ensures named { OnOk result (AddsName (codes "index.html") (D.names report.old) (D.names report.new)) }
+    ensures named { OnOk result (AreAdded (index_files work.now.options.now.title work.now.options.now.date
+        (totals_of_chosen (choice_data work.now.choice.now) (T.shown work.now.table.now).sections) (map entry_data entries.now)) (D.names report.old) (D.names report.new)) }
     ensures none { D.begun report.new ≡ None }
     ensures good { OnOk result (D.failed report.new ≡ D.failed report.old) }
 {
-    let indexed = indexed(work.alloc, entries)?;
-    let directories = directories(work.alloc, indexed.as_slice())?;
+    let files = indexed(work.alloc, entries)?;
+    let directories = directories(work.alloc, files.as_slice())?;
+    if files.len() > MOST_LISTED {
+        return write_directories(work, files.len() as u64, directories.as_slice(), report);
+    }
     let page = IndexPage {
         title: text_or(&work.options.title, TITLE),
         date: text_if_any(&work.options.date),
@@ -270,6 +280,62 @@ fn write_index<F, T: PointsTable<Global>, D: OutputFolder>(
     };
     write_text(work.alloc, "index.html", Page::Index(page), report)?;
     Ok(())
+}
+
+/// Writes a page for each of these directories, and the index of them. `number` pages come before.
+fn write_directories<F, T: PointsTable<Global>, D: OutputFolder>(
+    work: &PagesWork<'_, F, T>,
+    number: u64,
+    directories: &[Directory<'_>],
+    report: &mut D,
+) -> Result<(), PagesFault>
+    requires free { D.begun report.old ≡ None }
+    requires few { D.failed report.old < 2 ^ 62 }
+    ensures finished { OnOk result (AreFinished (directory_files work.now.options.now.title work.now.options.now.date
+        (totals_of_chosen (choice_data work.now.choice.now) (T.shown work.now.table.now).sections) number (map directory_data directories.now)) (D.finished report.old) (D.finished report.new)) }
+    ensures named { OnOk result (AreAdded (directory_files work.now.options.now.title work.now.options.now.date
+        (totals_of_chosen (choice_data work.now.choice.now) (T.shown work.now.table.now).sections) number (map directory_data directories.now)) (D.names report.old) (D.names report.new)) }
+    ensures none { D.begun report.new ≡ None }
+    ensures good { OnOk result (D.failed report.new ≡ D.failed report.old) }
+{
+    let linked = write_directory_pages(work.alloc, number, directories, report)?;
+    let rows = indexed_directories(work.alloc, linked.as_slice())?;
+    let page = DirectoryIndex {
+        title: text_or(&work.options.title, TITLE),
+        date: text_if_any(&work.options.date),
+        totals: chosen_totals(work.table, work.choice),
+        directories: rows.as_slice(),
+    };
+    write_text(work.alloc, "index.html", Page::Directories(page), report)?;
+    Ok(())
+}
+
+/// Writes a page for each of these directories. `number` pages come before.
+fn write_directory_pages<'d, D: OutputFolder>(
+    alloc: Global,
+    number: u64,
+    directories: &[Directory<'d>],
+    report: &mut D,
+) -> Result<Vec<Linked<'d>>, PagesFault>
+    requires free { D.begun report.old ≡ None }
+    requires few { D.failed report.old < 2 ^ 62 }
+    ensures linked { IfOk result (λ linked. map linked_data linked.items ≡ linked_after number (map directory_data directories.now)) }
+    ensures finished { OnOk result (AreFinished (directory_pages number (map directory_data directories.now)) (D.finished report.old) (D.finished report.new)) }
+    ensures named { OnOk result (AreAdded (directory_pages number (map directory_data directories.now)) (D.names report.old) (D.names report.new)) }
+    ensures none { D.begun report.new ≡ None }
+    ensures good { OnOk result (D.failed report.new ≡ D.failed report.old) }
+{
+    let mut linked = Vec::new(alloc);
+    for (place, directory) in directories.iter().enumerate() {
+        let name = directory_page_name(alloc, number + place as u64 + 1, directory.path)?;
+        write_page(alloc, name.get(), Page::Directory(*directory), report)?;
+        linked.push(Linked {
+            page: name,
+            path: directory.path,
+            totals: directory.totals,
+        })?;
+    }
+    Ok(linked)
 }
 
 /// The text of an option, or `other` without the option.

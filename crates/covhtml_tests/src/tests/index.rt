@@ -40,7 +40,7 @@ const TWO_DIRECTORIES: &[u8] = b"\
 <thead><tr><th scope=\"col\">File<th scope=\"col\" colspan=\"3\">Lines<th scope=\"col\" colspan=\"2\">Functions<th scope=\"col\" colspan=\"2\">Branches</thead>
 <tbody>
 <tr><th scope=\"row\"><a href=\"file-a.c.html\">a.c</a><td><meter aria-hidden=\"true\" max=\"1000\" low=\"750\" high=\"900\" optimum=\"1000\" value=\"500\"></meter><td>50.0%<td>1/2<td>0.0%<td>0/1<td>-<td>0/0
-<tr><th scope=\"row\">Total<td><meter aria-hidden=\"true\" max=\"1000\" low=\"750\" high=\"900\" optimum=\"1000\" value=\"500\"></meter><td>50.0%<td>1/2<td>0.0%<td>0/1<td>-<td>0/0
+<tr class=\"t\"><th scope=\"row\">Total<td><meter aria-hidden=\"true\" max=\"1000\" low=\"750\" high=\"900\" optimum=\"1000\" value=\"500\"></meter><td>50.0%<td>1/2<td>0.0%<td>0/1<td>-<td>0/0
 </tbody>
 </table>
 </details>
@@ -51,7 +51,7 @@ const TWO_DIRECTORIES: &[u8] = b"\
 <tbody>
 <tr><th scope=\"row\"><a href=\"file-lib-x-~3cb.c.html\">&lt;b.c</a><td><meter aria-hidden=\"true\" max=\"1000\" low=\"750\" high=\"900\" optimum=\"1000\" value=\"1000\"></meter><td>100.0%<td>1/1<td>-<td>0/0<td>-<td>0/0
 <tr><th scope=\"row\"><a href=\"file-lib-x-d-.html\">d/</a><td><meter aria-hidden=\"true\" max=\"1000\" low=\"750\" high=\"900\" optimum=\"1000\" value=\"1000\"></meter><td>100.0%<td>1/1<td>-<td>0/0<td>-<td>0/0
-<tr><th scope=\"row\">Total<td><meter aria-hidden=\"true\" max=\"1000\" low=\"750\" high=\"900\" optimum=\"1000\" value=\"1000\"></meter><td>100.0%<td>2/2<td>-<td>0/0<td>-<td>0/0
+<tr class=\"t\"><th scope=\"row\">Total<td><meter aria-hidden=\"true\" max=\"1000\" low=\"750\" high=\"900\" optimum=\"1000\" value=\"1000\"></meter><td>100.0%<td>2/2<td>-<td>0/0<td>-<td>0/0
 </tbody>
 </table>
 </details>
