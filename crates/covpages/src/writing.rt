@@ -1,6 +1,6 @@
 //! Writes the folder of pages.
 
-ghost use Rattle.std.specs.Prelude.{◌≡◌, ◌<◌, ◌^◌, ◌++◌, [], ◌∷◌, None, IfErr, IfOk, OnErr, OnOk, map, option_map, unwrap_or};
+ghost use Rattle.std.specs.Prelude.{◌≡◌, ◌<◌, ◌^◌, ◌++◌, [], ◌∷◌, None, IfErr, IfOk, OnErr, OnOk, codes, map, option_map, unwrap_or};
 ghost use Rattle.covhtml.specs.PagesView.{directory_data};
 ghost use Rattle.covhtml.specs.Points.{points_of};
 ghost use Rattle.covhtml.specs.PointsView.{points_data};
@@ -273,8 +273,8 @@ fn write_index<F, T: PointsTable<Global>, D: OutputFolder>(
         return write_directories(work, files.len() as u64, directories.as_slice(), report);
     }
     let page = IndexPage {
-        title: text_or(&work.options.title, TITLE),
-        date: text_if_any(&work.options.date),
+        title: title_of(work.options),
+        date: date_of(work.options),
         totals: chosen_totals(work.table, work.choice),
         directories: directories.as_slice(),
     };
@@ -301,8 +301,8 @@ fn write_directories<F, T: PointsTable<Global>, D: OutputFolder>(
     let linked = write_directory_pages(work.alloc, number, directories, report)?;
     let rows = indexed_directories(work.alloc, linked.as_slice())?;
     let page = DirectoryIndex {
-        title: text_or(&work.options.title, TITLE),
-        date: text_if_any(&work.options.date),
+        title: title_of(work.options),
+        date: date_of(work.options),
         totals: chosen_totals(work.table, work.choice),
         directories: rows.as_slice(),
     };
@@ -338,22 +338,22 @@ fn write_directory_pages<'d, D: OutputFolder>(
     Ok(linked)
 }
 
-/// The text of an option, or `other` without the option.
-fn text_or<'t>(text: &'t Option<Bytes>, other: &'t [u8]) -> &'t [u8]
-    ensures { result.now ≡ unwrap_or text.now other.now }
+/// The title of the index.
+fn title_of(options: &PageOptions) -> &[u8]
+    ensures { result.now ≡ unwrap_or options.now.title (codes "Coverage") }
 {
-    match text {
-        Some(text) => text.get(),
-        None => other,
+    match &options.title {
+        Some(title) => title.get(),
+        None => TITLE,
     }
 }
 
-/// The text of an option, if the option is given.
-fn text_if_any(text: &Option<Bytes>) -> Option<&[u8]>
-    ensures { option_map (λ t. t.now) result ≡ text.now }
+/// The date of the index, if one is given.
+fn date_of(options: &PageOptions) -> Option<&[u8]>
+    ensures { option_map (λ d. d.now) result ≡ options.now.date }
 {
-    match text {
-        Some(text) => Some(text.get()),
+    match &options.date {
+        Some(date) => Some(date.get()),
         None => None,
     }
 }
