@@ -329,13 +329,22 @@ fn write_directory_pages<'d, D: OutputFolder>(
     for (place, directory) in directories.iter().enumerate() {
         let name = directory_page_name(alloc, number + place as u64 + 1, directory.path)?;
         write_page(alloc, name.get(), Page::Directory(*directory), report)?;
-        linked.push(Linked {
+        let last = Linked {
             page: name,
             path: directory.path,
             totals: directory.totals,
-        })?;
+        };
+        push_linked(&mut linked, last)?;
     }
     Ok(linked)
+}
+
+/// Appends a directory that has a page.
+fn push_linked<'d>(linked: &mut Vec<Linked<'d>>, last: Linked<'d>) -> Result<(), Memory>
+    ensures { OnOk result (map linked_data linked.new.items ≡ map linked_data linked.old.items ++ linked_data last ∷ []) }
+{
+    linked.push(last)?;
+    Ok(())
 }
 
 /// The title of the index.
