@@ -19,7 +19,7 @@ table { border-collapse: collapse; width: 100%; }
 thead th { color: var(--dim); text-align: right; }
 .files th, .files td, .functions th, .functions td { border-bottom: 1px solid var(--line); padding: .25rem .5rem; text-align: right; white-space: nowrap; }
 .files th:first-child, .functions th:first-child, .functions td:first-child { width: 100%; min-width: 9rem; text-align: left; font-weight: 400; white-space: normal; overflow-wrap: anywhere; }
-.files td { min-width: 3rem; }
+.files td { min-width: 4rem; }
 .files tr.t > * { font-weight: 600; }
 .lines { font: .85rem/1.5 ui-monospace, monospace; tab-size: 4; }
 .lines th, .lines td { padding: 0 .6rem; vertical-align: top; }
