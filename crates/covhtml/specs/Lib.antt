@@ -6,9 +6,9 @@ pub mod Frame
 pub mod Rows
 pub mod RowView
 pub mod SectionRows
+pub mod SourcePage
 pub mod Points
 pub mod PointsView
-pub mod SourcePage
 pub mod IndexPage
 pub mod DirectoryPages
 pub mod PagesView

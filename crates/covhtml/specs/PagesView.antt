@@ -7,10 +7,11 @@ use Rattle.covhtml.specs.declared.pages.IndexPage.{IndexPage}
 use Rattle.covhtml.specs.declared.pages.IndexedDirectory.{IndexedDirectory}
 use Rattle.covhtml.specs.declared.pages.IndexedFile.{IndexedFile}
 use Rattle.covhtml.specs.declared.pages.SourcePage.{SourcePage}
+use Rattle.covhtml.specs.declared.pages.TestTotals.{TestTotals}
 use Rattle.covhtml.specs.DirectoryPages.{DirectoryIndexData, IndexedDirectoryData}
 use Rattle.covhtml.specs.IndexPage.{DirectoryData, IndexPageData, IndexedFileData}
 use Rattle.covhtml.specs.RowView.{row_data}
-use Rattle.covhtml.specs.SourcePage.{SourcePageData}
+use Rattle.covhtml.specs.SourcePage.{SourcePageData, TestTotalsData}
 
 abbrev pub indexed_file_data : IndexedFile → IndexedFileData
 indexed_file_data file = record { page = file.page.now; path = file.path.now; totals = file.totals }
@@ -37,11 +38,15 @@ directory_index_data page = record {
   directories = map indexed_directory_data page.directories.now;
 }
 
+abbrev pub test_totals_data : TestTotals → TestTotalsData
+test_totals_data t = record { test = t.test.now; totals = t.totals }
+
 abbrev pub source_page_data : SourcePage → SourcePageData
 source_page_data page = record {
   path = page.path.now;
   totals = page.totals;
   functions = map function_data page.functions.now;
+  tests = map test_totals_data page.tests.now;
   rows = map row_data page.rows.now;
   source = page.source.now;
 }

@@ -1,10 +1,12 @@
 -- The points of a file over all tests, as pages show them.
-use Rattle.std.specs.Prelude.{ℕ, ◌+◌, min, Option, None, Some, List, [], ◌∷◌}
+use Rattle.std.specs.Prelude.{ℕ, ◌+◌, min, nat_lt, if◌then◌else◌, Option, None, Some, List, [], ◌∷◌, count_by, length, map}
 use Rattle.std.specs.declared.cmp.Ordering.{Ordering}
 use Rattle.std.specs.Ordering.{match_ordering, nat_cmp}
 use Rattle.std.specs.Cmp.Lexicographic.{slice_cmp}
 use Rattle.covtable.specs.Content.{BranchValueData, FunctionValueData, LineValueData, SectionData}
-use Rattle.covtable.specs.Value.{bounded, branch_cmp}
+use Rattle.covtable.specs.Value.{bounded, branch_cmp, is_taken}
+use Rattle.covtable.specs.declared.totals.Totals.{Totals}
+use Rattle.covhtml.specs.SourcePage.{TestTotalsData}
 
 -- functions, branches and lines, each in ascending order
 pub record PointsData : Type 0 where
@@ -62,6 +64,24 @@ no_points = record { functions = []; branches = []; lines = [] }
 
 abbrev pub points_in : SectionData → PointsData
 points_in s = record { functions = s.functions; branches = s.branches; lines = s.lines }
+
+-- how many points there are, and how many of them are hit
+abbrev pub totals_in : PointsData → Totals
+totals_in points = record {
+  lf = length points.lines;
+  lh = count_by (λ l. nat_lt 0 l.count) points.lines;
+  ff = length points.functions;
+  fh = count_by (λ f. nat_lt 0 f.count) points.functions;
+  bf = length points.branches;
+  bh = count_by (λ b. is_taken b.taken) points.branches;
+}
+
+abbrev pub test_of : SectionData → TestTotalsData
+test_of s = record { test = s.key.test; totals = totals_in (points_in s) }
+
+-- the tests of a file's sections, if there are several
+abbrev pub tests_of : List SectionData → List TestTotalsData
+tests_of sections = if nat_lt 1 (length sections) then map test_of sections else []
 
 -- the points of a file's sections, each once, with the sums of their counts
 abbrev pub points_of : List SectionData → PointsData

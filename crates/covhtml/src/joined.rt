@@ -1,15 +1,19 @@
 //! Adds up the points of a file over its tests.
 
-ghost use Rattle.std.specs.Prelude.{◌≡◌, ◌++◌, List, IfOk, map};
+ghost use Rattle.std.specs.Prelude.{◌≡◌, ◌++◌, List, IfOk, OnOk, map};
 ghost use Rattle.std.specs.declared.cmp.Ordering.{Ordering as Ordered};
 ghost use Rattle.covtable.specs.Content.{BranchValueData, FunctionValueData, LineValueData};
+ghost use Rattle.covtable.specs.Totals.{AreTotals};
 ghost use Rattle.covtable.specs.ValuesView.{branch_data, function_data, line_data};
-ghost use Rattle.covhtml.specs.Points.{branch_order, branches_plus, function_order, functions_plus, line_order, lines_plus, merged as merged_points, merged_after, no_points, points_of, points_plus, taken_plus as taken_in_both};
+ghost use Rattle.covhtml.specs.Points.{branch_order, branches_plus, function_order, functions_plus, line_order, lines_plus, merged as merged_points, merged_after, no_points, points_of, points_plus, taken_plus as taken_in_both, test_of, tests_of as tests_in, totals_in};
+ghost use Rattle.covhtml.specs.PagesView.{test_totals_data};
 ghost use Rattle.covhtml.specs.PointsView.{points_data, section_data};
 
+use crate::pages::TestTotals;
 use crate::points::{Points, SectionPoints};
+use crate::rows::branches_hit;
 use covdata::Memory;
-use covtable::{BranchValue, FunctionValue, LineValue};
+use covtable::{BranchValue, FunctionValue, LineValue, Totals};
 use std::alloc::Allocator;
 use std::cmp::Ordering;
 
@@ -33,6 +37,57 @@ pub fn joined<'s, A: Allocator + Copy>(
         all = section.points.plus(alloc, &all)?;
     }
     Ok(all)
+}
+
+/// Returns the tests of a file's sections, each with the totals of its own points, if there are several.
+///
+/// # Errors
+///
+/// `Memory` if an allocation failed.
+pub fn tests_of<'s, A: Allocator>(
+    alloc: A,
+    sections: &[SectionPoints<'s, A>],
+) -> Result<Vec<TestTotals<'s>, A>, Memory>
+    ensures { IfOk result (λ tests. map test_totals_data tests.items ≡ tests_in (map section_data sections.now)) }
+{
+    let mut tests = Vec::new(alloc);
+    if sections.len() > 1 {
+        push_tests(sections, &mut tests)?;
+    }
+    Ok(tests)
+}
+
+/// Appends a test for each section.
+fn push_tests<'s, A: Allocator>(
+    sections: &[SectionPoints<'s, A>],
+    tests: &mut Vec<TestTotals<'s>, A>,
+) -> Result<(), Memory>
+    ensures { OnOk result (map test_totals_data tests.new.items ≡ map test_totals_data tests.old.items ++ map test_of (map section_data sections.now)) }
+{
+    for section in sections {
+        tests.push(TestTotals {
+            test: section.test,
+            totals: section.points.totals(),
+        })?;
+    }
+    Ok(())
+}
+
+impl<'s, A: Allocator> Points<'s, A> {
+    /// How many points there are, and how many of them are hit.
+    fn totals(&self) -> Totals
+        ensures value { result ≡ totals_in (points_data self.now) }
+        ensures bounds { AreTotals result }
+    {
+        Totals {
+            lf: self.lines.len() as u64,
+            lh: self.lines.iter().filter(|line| line.count > 0).count() as u64,
+            ff: self.functions.len() as u64,
+            fh: self.functions.iter().filter(|it| it.count > 0).count() as u64,
+            bf: self.branches.len() as u64,
+            bh: branches_hit(self.branches.as_slice()),
+        }
+    }
 }
 
 impl<'s, A: Allocator + Copy> Points<'s, A> {

@@ -40,9 +40,11 @@ mod style_sheet;
 
 pub use directory_pages::{put_directory_index, put_directory_page};
 pub use index_page::{name_of, put_index_page};
-pub use joined::joined;
+pub use joined::{joined, tests_of};
 pub use names::{directory_page_name, page_name};
-pub use pages::{Directory, DirectoryIndex, IndexPage, IndexedDirectory, IndexedFile, SourcePage};
+pub use pages::{
+    Directory, DirectoryIndex, IndexPage, IndexedDirectory, IndexedFile, SourcePage, TestTotals,
+};
 pub use points::{Points, PointsTable, SectionPoints, section_points};
 pub use rows::Row;
 pub use section_rows::rows_of;

@@ -55,6 +55,14 @@ pub(crate) const FUNCTIONS: &[u8] = b"<details>
 <tbody>
 ";
 
+/// The beginning of the table of tests, up to its rows.
+pub(crate) const TESTS: &[u8] = b"<details>
+<summary>Tests</summary>
+<table class=\"files\">
+<thead><tr><th scope=\"col\">Test<th scope=\"col\" colspan=\"3\">Lines<th scope=\"col\" colspan=\"2\">Functions<th scope=\"col\" colspan=\"2\">Branches</thead>
+<tbody>
+";
+
 /// The beginning of the table of lines, up to its rows.
 pub(crate) const LINES: &[u8] = b"<table class=\"lines\">
 <thead><tr><th scope=\"col\">Line<th scope=\"col\">Count<th scope=\"col\">Branches<th scope=\"col\">Source</thead>

@@ -69,6 +69,16 @@ pub struct DirectoryIndex<'a> {
     ghost are_totals: { AreTotals totals },
 }
 
+/// What a test has of a source file.
+#[derive(Clone, Copy)]
+pub struct TestTotals<'a> {
+    /// The test's name.
+    pub test: &'a [u8],
+    /// The totals of the file's points in this test.
+    pub totals: Totals,
+    ghost are_totals: { AreTotals totals },
+}
+
 /// The page of a source file.
 #[derive(Clone, Copy)]
 pub struct SourcePage<'a> {
@@ -78,6 +88,8 @@ pub struct SourcePage<'a> {
     pub totals: Totals,
     /// The file's functions, in the order of their rows.
     pub functions: &'a [FunctionValue<'a>],
+    /// The tests that have points of the file, in the order of their rows. None are shown if the list is empty.
+    pub tests: &'a [TestTotals<'a>],
     /// The lines that have points, ascending by number.
     pub rows: &'a [Row<'a>],
     /// The text of the source file. Lines that it doesn't have are shown without a text, so it may be empty.

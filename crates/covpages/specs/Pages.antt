@@ -5,7 +5,7 @@ use Rattle.covcommand.specs.declared.asked.Strictness.TheVariants.{Lenient, Stri
 use Rattle.covhtml.specs.DirectoryPages.{IndexedDirectoryData, directory_index, directory_page, directory_page_name}
 use Rattle.covhtml.specs.IndexPage.{DirectoryData, IndexedFileData, index_page}
 use Rattle.covhtml.specs.PageName.{page_name}
-use Rattle.covhtml.specs.Points.{PointsData, points_of}
+use Rattle.covhtml.specs.Points.{PointsData, points_of, tests_of}
 use Rattle.covhtml.specs.Rows.{RowData}
 use Rattle.covhtml.specs.SectionRows.{section_rows}
 use Rattle.covhtml.specs.SourcePage.{source_page}
@@ -59,6 +59,7 @@ page_of sections file source = source_page (record {
   path = file.path;
   totals = file.totals;
   functions = (points_at sections file.path).functions;
+  tests = tests_of (own_sections file.path sections);
   rows = rows_at sections file.path;
   source = shown_text source;
 })

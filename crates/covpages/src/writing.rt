@@ -2,8 +2,6 @@
 
 ghost use Rattle.std.specs.Prelude.{◌≡◌, ◌<◌, ◌^◌, ◌++◌, [], ◌∷◌, None, IfErr, IfOk, OnErr, OnOk, codes, map, option_map, unwrap_or};
 ghost use Rattle.covhtml.specs.PagesView.{directory_data};
-ghost use Rattle.covhtml.specs.Points.{points_of};
-ghost use Rattle.covhtml.specs.PointsView.{points_data};
 ghost use Rattle.covhtml.specs.RowView.{row_data};
 ghost use Rattle.covpages.specs.Directories.{totals_together};
 ghost use Rattle.covpages.specs.Pages.{IsPagesFault, IsWritten, directory_files, directory_pages, files_shown, index_files, is_refused, linked_after};
@@ -26,8 +24,8 @@ use crate::source_text::{Source, put_complaint, read_source};
 use covcommand::{PageOptions, Strictness};
 use covdata::{Bytes, Memory};
 use covhtml::{
-    Directory, DirectoryIndex, IndexPage, Points, PointsTable, Row, SourcePage,
-    directory_page_name, joined, page_name, rows_of,
+    Directory, DirectoryIndex, IndexPage, PointsTable, Row, SourcePage, directory_page_name,
+    joined, page_name, rows_of, tests_of,
 };
 use covreport::{Choice, chosen_totals};
 use covtable::FileTotals;
@@ -181,7 +179,9 @@ fn write_source<'s, F: Folder, T: PointsTable<Global>, D: OutputFolder>(
 {
     let number = progress.entries.len() as u64 + 1;
     let name = page_name(work.alloc, number, file.path)?;
-    let points = points_for(work, file.path)?;
+    let sections = work.table.sections_of(work.alloc, file.path)?;
+    let tests = tests_of(work.alloc, sections.as_slice())?;
+    let points = joined(work.alloc, sections)?;
     let rows = rows_of(
         work.alloc,
         points.lines.as_slice(),
@@ -192,6 +192,7 @@ fn write_source<'s, F: Folder, T: PointsTable<Global>, D: OutputFolder>(
         path: file.path,
         totals: file.totals,
         functions: points.functions.as_slice(),
+        tests: tests.as_slice(),
         rows: rows.as_slice(),
         source: source.text(),
     };
@@ -202,17 +203,6 @@ fn write_source<'s, F: Folder, T: PointsTable<Global>, D: OutputFolder>(
         totals: file.totals,
     })?;
     Ok(())
-}
-
-/// The points of a source file over all tests.
-fn points_for<'w, F, T: PointsTable<Global>>(
-    work: &PagesWork<'w, F, T>,
-    path: &[u8],
-) -> Result<Points<'w, Global>, Memory>
-    ensures { IfOk result (λ points. points_data points ≡ points_of (own_sections path.now (T.shown work.now.table.now).sections)) }
-{
-    let sections = work.table.sections_of(work.alloc, path)?;
-    joined(work.alloc, sections)
 }
 
 /// Writes a page into the file called `name`.

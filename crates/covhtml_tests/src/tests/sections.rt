@@ -5,7 +5,7 @@ ghost use Rattle.covtable.specs.Totals.{AreTotals};
 use super::collected::Collected;
 use super::made;
 use covdata::{Memory, Submission};
-use covhtml::{Points, PointsTable, Row, SectionPoints, SourcePage};
+use covhtml::{Points, PointsTable, Row, SectionPoints, SourcePage, TestTotals};
 use covread::{ReadFault, read_trace};
 use covstore::Store;
 use covtable::{BranchValue, LineValue, Totals};
@@ -95,6 +95,14 @@ fn sections<'s>(
     store.sections_of(alloc, file)
 }
 
+/// Calls `tests_of` without its contract.
+fn tests<'s>(
+    alloc: Global,
+    sections: &[SectionPoints<'s, Global>],
+) -> Result<Vec<TestTotals<'s>>, Memory> {
+    covhtml::tests_of(alloc, sections)
+}
+
 /// Calls `joined` without its contract.
 fn points<'s>(
     alloc: Global,
@@ -118,6 +126,7 @@ fn printed(rt: &(impl Abort + AllocGlobal), store: &Store, path: &[u8], totals: 
 {
     let alloc = rt.alloc();
     let sections = made(rt, sections(alloc, store, path));
+    let tests = made(rt, tests(alloc, sections.as_slice()));
     let points = made(rt, points(alloc, sections));
     let rows = made(
         rt,
@@ -127,6 +136,7 @@ fn printed(rt: &(impl Abort + AllocGlobal), store: &Store, path: &[u8], totals: 
         path,
         totals,
         functions: points.functions.as_slice(),
+        tests: tests.as_slice(),
         rows: rows.as_slice(),
         source: b"if\nnot",
     };
@@ -177,9 +187,12 @@ DA:1,9
 end_of_record
 ";
 
-/// The rows of its functions and lines: the counts of both tests, and the least start line of `g`.
-const SUMS: [&[u8]; 2] = [
+/// The rows of its functions, tests and lines: the counts of both tests, and the least start line of `g`.
+const SUMS: [&[u8]; 3] = [
     b"<tr><td>g<td><a href=\"#L3\">3</a><td>3\n<tr><td>h<td><a href=\"#L1\">1</a><td>0\n",
+    b"<tr><th scope=\"row\">one<td><meter aria-hidden=\"true\" max=\"1000\" low=\"750\" high=\"900\" optimum=\"1000\" value=\"500\"></meter><td>50.0%<td>1/2<td>100.0%<td>1/1<td>50.0%<td>1/2
+<tr><th scope=\"row\">two<td><meter aria-hidden=\"true\" max=\"1000\" low=\"750\" high=\"900\" optimum=\"1000\" value=\"500\"></meter><td>50.0%<td>1/2<td>50.0%<td>1/2<td>100.0%<td>1/1
+",
     b"<tr id=\"L1\" class=\"n\"><td><a href=\"#L1\">1</a><td>0 <a href=\"#L3\" title=\"next line not run\">&darr;3</a><td><td>if
 <tr id=\"L2\" class=\"y\"><td><a href=\"#L2\">2</a><td title=\"100005\">1.0e5<td title=\"taken 4 3\">2/2<td>not
 <tr id=\"L3\" class=\"n\"><td><a href=\"#L3\">3</a><td>0<td><td>

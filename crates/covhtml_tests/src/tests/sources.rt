@@ -96,6 +96,7 @@ fn each_kind_of_row(rt: HostRuntime) {
             bh: 1,
         },
         functions: &functions,
+        tests: &[],
         rows: &rows,
         source: b"int f() {\n\tif (a < b)\r\n\n}\n",
     };
@@ -168,6 +169,7 @@ fn a_source_that_is_not_there(rt: HostRuntime) {
             bh: 0,
         },
         functions: &[],
+        tests: &[],
         rows: &rows,
         source: b"",
     };
