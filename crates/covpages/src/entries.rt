@@ -1,8 +1,8 @@
 //! The source files that the index lists, by their directories.
 
-ghost use Rattle.std.specs.Prelude.{◌≡◌, ◌++◌, ◌≤◌, length, take, IfOk, OnOk, map};
+ghost use Rattle.std.specs.Prelude.{◌≡◌, ◌++◌, ◌≤◌, length, IfOk, map};
 ghost use Rattle.covhtml.specs.PagesView.{directory_data, indexed_directory_data, indexed_file_data};
-ghost use Rattle.covpages.specs.Directories.{count_in as count_in_directory, directories_of, directory_of as directory_of_path, runs_of, sorted_files, totals_together};
+ghost use Rattle.covpages.specs.Directories.{count_in as count_in_directory, directory_of as directory_of_path, runs_of, sorted_files, totals_together};
 ghost use Rattle.covpages.specs.View.{entry_data, linked_data};
 ghost use Rattle.covtable.specs.Totals.{AreTotals};
 

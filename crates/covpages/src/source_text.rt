@@ -1,10 +1,8 @@
 //! The texts of source files.
 
-ghost use Rattle.std.specs.Prelude.{◌≡◌, ◌++◌, IfOk, OnOk, length, map};
+ghost use Rattle.std.specs.Prelude.{◌≡◌, ◌++◌, IfOk, OnOk, map};
 ghost use Rattle.covhtml.specs.RowView.{row_data};
-ghost use Rattle.covline.specs.Lines.{lines_of};
-ghost use Rattle.covlist.specs.Shown.{shown_name};
-ghost use Rattle.covpages.specs.Sources.{SourceData, complaint_of, IsSource, has_lines as has_lines_of, last_line as last_line_of};
+ghost use Rattle.covpages.specs.Sources.{complaint_of, IsSource, has_lines as has_lines_of, last_line as last_line_of};
 ghost use Rattle.covpages.specs.View.{source_data};
 ghost use Rattle.covworld.specs.Folder.{folder_data};
 

@@ -1,6 +1,6 @@
 -- What a subcommand has to do, and which of its words are refused before any file is read.
 use Rattle.std.specs.List.{AllByRecursion}
-use Rattle.std.specs.Prelude.{◌≡◌, ◌⊎◌, ◌<◌, ◌≤◌, ℕ, if◌then◌else◌, List, [], Option, None, Some, length, map, take, drop, is_some, IsTrue}
+use Rattle.std.specs.Prelude.{◌≡◌, ◌⊎◌, ◌<◌, ◌≤◌, ℕ, if◌then◌else◌, List, [], Option, None, Some, length, take, drop, is_some, IsTrue}
 use Rattle.covdata.specs.Lawful.{IsGoodTest}
 use Rattle.covlimit.specs.Limits.{LimitsData, has_limit}
 use Rattle.covlimit.specs.Rates.{IsRate}
@@ -17,7 +17,6 @@ use Rattle.covcommand.specs.declared.asked.TotalsForm.TheVariants as forms
 use Rattle.covcommand.specs.declared.asked.SourceFilter.{SourceFilter}
 use Rattle.covcommand.specs.declared.asked.Strictness.{Strictness}
 use Rattle.covpages.specs.Sources.{rule_of}
-use Rattle.covtable.specs.Table.{Table}
 use Rattle.covdata.specs.declared.version.LcovVersion.{LcovVersion}
 use Rattle.covdata.specs.declared.version.LcovVersion.TheVariants as versions
 use Rattle.covcommand.specs.declared.asked.TextFormat.{TextFormat}
