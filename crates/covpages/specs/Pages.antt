@@ -1,5 +1,5 @@
 -- The folder that `html` writes.
-use Rattle.std.specs.Prelude.{◌≡◌, ◌⊎◌, ⊥, ℕ, ◌+◌, Bool, true, false, not, ◌==◌, Option, List, [], ◌∷◌, ◌++◌, length, codes, nat_le, if◌then◌else◌, unwrap_or}
+use Rattle.std.specs.Prelude.{◌≡◌, ◌⊎◌, ℕ, ◌+◌, Bool, true, false, not, ◌==◌, Option, List, [], ◌∷◌, ◌++◌, length, codes, nat_le, if◌then◌else◌, unwrap_or}
 use Rattle.covcommand.specs.declared.asked.Strictness.{Strictness}
 use Rattle.covcommand.specs.declared.asked.Strictness.TheVariants.{Lenient, Strict}
 use Rattle.covhtml.specs.DirectoryPages.{IndexedDirectoryData, directory_index, directory_page, directory_page_name}

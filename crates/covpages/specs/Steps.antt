@@ -1,5 +1,5 @@
 -- Private steps: what is written of a folder of pages so far.
-use Rattle.std.specs.Prelude.{◌≡◌, ⊥, ℕ, ◌+◌, Option, None, Some, List, [], ◌∷◌, ◌++◌, false, length, map}
+use Rattle.std.specs.Prelude.{◌≡◌, ℕ, ◌+◌, Option, None, Some, List, [], ◌∷◌, ◌++◌, false, length, map}
 use Rattle.covhtml.specs.IndexPage.{IndexedFileData}
 use Rattle.covhtml.specs.PageName.{page_name}
 use Rattle.covpages.specs.Pages.{PagesWorkData, AreSources, complaints_of, files_of, files_shown, indexed_after, is_refused, page_of, pages_after, place_of, rows_at}
