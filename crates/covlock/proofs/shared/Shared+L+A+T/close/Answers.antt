@@ -6,7 +6,7 @@ use Rattle.covlock.specs.Seat.{SeatData, logs_of}
 use Rattle.covlock.proofs.shared.Shared+L+A+T.close.Goals as goal
 
 pub returns-in-Ok-clause-gathered : goal.returns-in-Ok-clause-gathered
-returns-in-Ok-clause-gathered g c = subst (λ (entries : List EntryData). IsGathered entries (logs_of c.args.seats)) (sym c.into_entries.ensures) c.in-Ok.ensures.gathered
+returns-in-Ok-clause-gathered g c = subst (λ (entries : List EntryData). IsGathered entries (logs_of c.args.seats)) (sym c.into_entries.ensures.entries) c.in-Ok.ensures.gathered
 
 pub returns-in-Ok-clause-seen : goal.returns-in-Ok-clause-seen
 returns-in-Ok-clause-seen g c =
