@@ -1,11 +1,11 @@
 -- How workers ended, as they are joined one after another, and what follows if all of them were started.
-use Rattle.std.proofs.Common.{◌≡◌, ◌∙◌, zero, suc, ◌<◌, arith, Bool, true, false, IsTrue, refl, List, [], ◌∷◌, ◌++◌, map, Result, Ok, Err, sym, ap, subst}
+use Rattle.std.proofs.Common.{◌≡◌, ◌∙◌, zero, suc, ◌<◌, arith, Bool, true, false, IsTrue, refl, List, [], ◌∷◌, ◌++◌, map, Result, Ok, Err, sym, ap, subst, append_assoc}
 use Rattle.std.specs.Prelude.{IfOk}
 use Rattle.std.specs.List.{AllByRecursion, Contains}
 use Rattle.std.proofs.lemmas.List.{append-nil}
 use Rattle.covworkers.specs.declared.stop.Stop.{Stop}
 use Rattle.covworkers.specs.Stops.{no_memory}
-use Rattle.covworkers.specs.Work.{Chances, WorkerData, WorkData, HaveDone, HaveEnded, HaveEndedIfStarted, IsStarted}
+use Rattle.covworkers.specs.Work.{Chances, WorkerData, WorkData, HasEnded, HaveDone, HaveEnded, HaveEndedIfStarted, IsStarted}
 
 abbrev pub End : Type 0 → Type 0
 End F = Result (WorkerData F) Stop
@@ -15,6 +15,14 @@ pub ended_at_end : {H X F : Type 0} (chances : Chances X F) (work : H → WorkDa
     → ((rest : List (End F)) → HaveEnded chances (map work left) rest → HaveEnded chances (map work handles) (ended ++ rest)) → left ≡ [] → HaveEnded chances (map work handles) ended
 ended_at_end {H} {X} {F} chances work handles left ended so_far none =
     subst (λ (ends : List (End F)). HaveEnded chances (map work handles) ends) (append-nil ended) (so_far [] (subst (λ (hs : List H). HaveEnded chances (map work hs) []) (sym none) tt))
+
+-- if one more worker has ended, the ends so far and any ends of the workers left are together those of all
+pub one_ended : {H X F : Type 0} (chances : Chances X F) (work : H → WorkData X) (handles left rest : List H) (handle : H) (ended after : List (End F)) (end : End F) → left ≡ handle ∷ rest → after ≡ ended ++ end ∷ []
+    → HasEnded chances (work handle) end → ((ends : List (End F)) → HaveEnded chances (map work left) ends → HaveEnded chances (map work handles) (ended ++ ends)) → (ends : List (End F))
+    → HaveEnded chances (map work rest) ends → HaveEnded chances (map work handles) (after ++ ends)
+one_ended {H} {X} {F} chances work handles left rest handle ended after end is grown has so_far ends have =
+    subst (λ (es : List (End F)). HaveEnded chances (map work handles) es) (sym (ap (λ (es : List (End F)). es ++ ends) grown ∙ append_assoc ended (end ∷ []) ends))
+    (so_far (end ∷ ends) (subst (λ (hs : List H). HaveEnded chances (map work hs) (end ∷ ends)) (sym is) (has, have)))
 
 -- a worker that wasn't started is among the ends
 not_started : {F : Type 0} (ended : List (End F)) → AllByRecursion IsStarted ended → Contains ended (Err no_memory) → ⊥

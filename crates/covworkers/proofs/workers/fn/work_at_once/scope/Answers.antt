@@ -4,11 +4,13 @@ use denote.Param.Send.{IsSend, IsSync, sendable}
 use Rattle.std.proofs.Common.{◌≡◌, ◌∙◌, ◌++◌, IsTrue, List, [], map, ap, arith}
 use Rattle.std.proofs.Crossing as heap
 use Rattle.std.proofs.lemmas.List.{nil_from_length}
-use Rattle.covlock.proofs.Crossing.{seat_send, shared_sync}
+use Rattle.covbook.proofs.reading.Readings.TheSendSync as readings
+use Rattle.covlock.proofs.Crossing.{live_send, seat_send, shared_sync}
 use Rattle.covlock.specs.Seat.{SeatData}
 use Rattle.covworkers.specs.Late.{chances_of}
 use Rattle.covworkers.specs.Work.{WorkData, work_of}
 use Rattle.covworkers.proofs.Ended.{ends_if_ok}
+use Rattle.covworkers.proofs.refused.Refused.TheSendSync as refused
 use Rattle.covworkers.proofs.shares.Placed.TheSendSync as placed
 use Rattle.covworkers.proofs.workers.fn.work_at_once.scope.Goals as goal
 
@@ -33,3 +35,10 @@ spawn_with-requires-send-F g c κs within =
     let kept : IsSend (param 4 g.row.K) = search (rules, c.requires) parts 8 in
     let stored : IsSend (param 6 g.row.S) = search (rules, c.requires) parts 8 in
     search (sendable, heap.crosses, shared_sync, seat_send, placed.the_send) depth 60 fits 20000
+
+-- and so may its worker
+pub spawn_with-requires-send-T : goal.spawn_with-requires-send-T
+spawn_with-requires-send-T g c κs within =
+    let kept : IsSend (param 5 g.row.P) = search (rules, c.requires) parts 8 in
+    let fault : IsSend (param 7 g.row.T-Fault) = search (rules, c.requires) parts 8 in
+    search (sendable, heap.crosses, live_send, readings.the_send, refused.the_send, seat_send) depth 60 fits 20000
