@@ -35,7 +35,7 @@ pages() {
     call "$COVCOLLECT" list a.info
     for page in src/a.c b.c; do
         holds "html: the row of $page as in the list" \
-            [ "$(tr -d '\n' <index.dom | sed 's,</\{0,1\}tr>,\n,g' | grep ">${page##*/}</a>" | sed 's/<[^>]*>/ /g; s/  */ /g; s/^ *[^ ]* //; s/ $//')" = \
+            [ "$(tr -d '\n' <index.dom | sed 's:</\{0,1\}tr>:\n:g' | grep ">${page##*/}</a>" | sed 's/<[^>]*>/ /g; s/  */ /g; s/^ *[^ ]* //; s/ $//')" = \
             "$(grep " $page\$" "$work/out" | sed 's/  */ /g; s/^ //; s/ [^ ]*$//')" ]
     done
     holds 'html: a script of a source is text' grep -q '&lt;script&gt;document.title' file-b.c.dom

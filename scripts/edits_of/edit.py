@@ -29,7 +29,7 @@ class Edit:
             self.text = it.read()
         self.file, self.short, self.pairs = file, os.path.basename(file), pairs_of(self.text)
         self.functions, self.shares, self.is_alone, self.is_single = [], False, False, False
-        self.verdict, self.why, self.is_kept = None, "", False
+        self.verdict, self.why, self.whence = None, "", None
 
     def find_functions(self, functions, cannot_be_applied):
         """Looks for the functions that judge it. It is to be tried alone where one of its changes has none, or one without a name."""
@@ -40,8 +40,9 @@ class Edit:
         self.functions = [] if self.is_alone else found
         self.shares = not self.is_alone and all(shares for _, shares in judged)
 
-    def settle(self, verdict, why):
-        self.verdict, self.why = verdict, why
+    def settle(self, verdict, why, whence=None):
+        """Gives it its verdict, and where that was kept or recorded before."""
+        self.verdict, self.why, self.whence = verdict, why, whence
 
     def applied(self, texts, folder):
         """These texts of files with this edit too, or None where one of its `old:` texts isn't there once."""

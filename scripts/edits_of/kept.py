@@ -1,6 +1,7 @@
-"""Verdicts of earlier runs, in a folder, each under a sum of all that it rests on: no entry goes stale, and one that can't be read counts for nothing.
+"""Verdicts of earlier runs, each under a sum of all that it rests on: no entry goes stale, and one that can't be read counts for nothing.
 
-An entry is written under another name and then renamed, so that no run meets half of one. One that no run used for 30 days is removed.
+They stand in a folder of this machine, and in the repository as far as they were recorded there (edits_of/refused). In the folder an entry is written under
+another name and then renamed, so that no run meets half of one. One that no run used for 30 days is removed.
 """
 import contextlib
 import functools
@@ -14,6 +15,8 @@ import time
 from .kit import kit_sum, own_sum, sum_of, sum_of_file
 
 DAYS = 30
+# Into how many parts what is recorded falls, of which one is tried again.
+PARTS = 20
 FOLDER = os.path.dirname(os.path.abspath(__file__))
 
 
@@ -44,44 +47,53 @@ def sum_of_library(folder):
     return sum_of(*[(os.path.relpath(it, folder), sum_of_file(it)) for it in sorted(files)])
 
 
-class Controlled:
-    """The functions that the control was seen to prove, as the repository records them: lines of two sums, of the kit and of what makes and reads a
-    check, a crate's name and its functions' names. A line with other sums counts for nothing."""
+class Lines:
+    """Lines of the repository with two sums, of the kit and of the script, a crate's name and words on it. A line with other sums counts for nothing."""
 
-    FILE = f"{FOLDER}/controlled"
-
-    def __init__(self):
-        self.found, self.lock = {}, threading.Lock()
-        with contextlib.suppress(FileNotFoundError), open(self.FILE, encoding="utf-8") as file:
-            for kit, checks, crate, *functions in map(str.split, file):
-                self.found[kit, checks, crate] = functions
+    def __init__(self, name, script):
+        self.path, self.script, self.found, self.lock = f"{FOLDER}/{name}", script, {}, threading.Lock()
+        with contextlib.suppress(FileNotFoundError), open(self.path, encoding="utf-8") as file:
+            for kit, of_script, crate, *words in map(str.split, file):
+                self.found[kit, of_script, crate] = words
 
     def of(self, crate):
-        """The names of the crate's functions."""
-        return self.found.get((kit_sum(), CHECKS, crate), [])
+        return self.found.get((kit_sum(), self.script, crate), [])
 
-    def record(self, crate, functions):
-        """Replaces the crate's functions, and leaves out lines with other sums of what makes and reads a check."""
+    def record(self, crate, words):
+        """Replaces the crate's words, and leaves out lines with other sums of the script."""
         with self.lock:
-            self.found[kit_sum(), CHECKS, crate] = sorted(functions)
-            lines = [" ".join([*key, *names]) for key, names in sorted(self.found.items()) if key[1] == CHECKS]
-            with open(self.FILE, "w", encoding="utf-8") as file:
+            self.found[kit_sum(), self.script, crate] = sorted(words)
+            lines = [" ".join([*key, *its]) for key, its in sorted(self.found.items()) if key[1] == self.script]
+            with open(self.path, "w", encoding="utf-8") as file:
                 file.write("".join(f"{it}\n" for it in lines))
 
 
+def part_of(name):
+    """The part of a sum, by which it is tried again with others."""
+    return int(name[:8], 16) % PARTS
+
+
 class Kept:
-    def __init__(self, folder, anew, records=False):
-        self.folder, self.anew, self.records, self.controlled = folder, anew, records, Controlled()
+    """What earlier runs saw: refusals, and the functions that the control proved."""
+
+    def __init__(self, folder, anew, records=False, due=None):
+        self.folder, self.anew, self.records, self.due = folder, anew, records, due
+        self.controlled, self.refused = Lines("controlled", CHECKS), Lines("refused", SCRIPT)
         os.makedirs(folder, exist_ok=True)
 
     def controlled_of(self, crate):
         """The names of the crate's functions that need no control."""
         return [] if self.anew else self.controlled.of(crate)
 
-    def record(self, crate, functions):
-        """Records these functions in the repository, if that was asked for."""
+    def is_recorded(self, crate, name):
+        """Whether the repository has a refusal of one of the crate's edits under this sum, and it isn't due to be tried again."""
+        return not self.anew and name in self.refused.of(crate) and part_of(name) != self.due
+
+    def record(self, crate, functions, refusals):
+        """Records the functions that the control proved, and the sums of refusals, in the repository, if that was asked for."""
         if self.records:
             self.controlled.record(crate, functions)
+            self.refused.record(crate, refusals)
 
     def read(self, name):
         """What was kept under this sum, or None."""

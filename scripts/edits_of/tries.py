@@ -43,16 +43,19 @@ class Tries:
         self.functions = Functions(crate.folder)
         self.checks = Checks(rt, crate, self.functions, log)
         self.batches, self.alone, self.controlled = 0, 0, 0
+        # The names of functions that the control was seen to prove, now or before.
+        self.proved = []
         # Functions that the control doesn't prove, with a goal: all, or those of a crate that is proved as it stands.
         self.broken, self.holed = {}, {}
 
-    def run(self, edits):
-        """Settles each of these edits."""
-        if not all(map(self.cannot_be_applied, edits)):
+    def run(self, edits, others=()):
+        """Settles each of these edits. The control is made for others too."""
+        concerned = list(dict.fromkeys([*edits, *others]))
+        if not all(map(self.cannot_be_applied, concerned)):
             self.lanes.run([lambda _: self.checks.name_functions()])
-        for it in edits:
+        for it in concerned:
             it.find_functions(self.functions, self.cannot_be_applied(it))
-        self.control(edits)
+        self.control(concerned)
         while left := [it for it in edits if not it.verdict and not it.is_alone]:
             made = self.batches_of(left)
             self.batches += len(made)
@@ -84,20 +87,21 @@ class Tries:
         names = {it: sum_of("control", kit_sum(), CHECKS, self.crate.name, it.name) for it in functions}
         recorded = self.kept.controlled_of(self.crate.name)
         new = [it for it in functions if it.name not in recorded and not self.kept.read(names[it])]
-        if not new:
-            return
-        self.controlled, most = len(new), self.most(len(new))
-        parts = [new[at : at + most] for at in range(0, len(new), most)]
-        for part, said in zip(parts, self.lanes.run([lambda begun, part=it: self.check_twice({}, part, begun) for it in parts])):
-            self.judge_control(part, said)
+        self.check_as_they_stand(new)
         for it in new:
             if it in self.broken:
                 self.kept.remove(names[it])
             else:
                 self.kept.write(names[it], True)
-        self.kept.record(self.crate.name, [it.name for it in functions if it not in self.broken])
+        self.proved = sorted({*recorded, *(it.name for it in functions if it not in self.broken)})
         if self.broken:
             self.settle_broken(edits)
+
+    def check_as_they_stand(self, functions):
+        self.controlled, most = len(functions), self.most(len(functions))
+        parts = [functions[at : at + most] for at in range(0, len(functions), most)]
+        for part, said in zip(parts, self.lanes.run([lambda begun, part=it: self.check_twice({}, part, begun) for it in parts])):
+            self.judge_control(part, said)
 
     def judge_control(self, functions, said):
         strays = said.strays(functions)
