@@ -58,6 +58,11 @@ both_halves (Some p) name rows n r =
     let same_rows : p.1 ≡ rows = cc in
     ap₂ (λ x y. Some (x, y)) same_name same_rows
 
+-- if there are no rows, there is no subcommand
+pub no_half : {X Y : Type 0} (met : Option (X × Y)) → None ≡ option_map (λ p. p.1) met → met ≡ None
+no_half None r = refl
+no_half (Some p) r = absurd cc
+
 -- the name that clap gives of a subcommand alone is the name that it gives together with the rows
 pub same_name : (m : ArgMatches) → subcommand_name_of m ≡ option_map (λ p. p.0) (subcommand_rows_of m)
 same_name m = go (out-ArgMatches m).subcommand

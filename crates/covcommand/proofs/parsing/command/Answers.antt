@@ -9,7 +9,7 @@ use Rattle.clap.specs.Faults.{is_simple_and_free}
 use Rattle.clap.specs.Kinds.{HasKind}
 use Rattle.covcommand.specs.Asked.{AsksFor, GoesTo, HasSize, HasStrictness, rows_met}
 use Rattle.covcommand.specs.CommandLine.{covcollect}
-use Rattle.covcommand.proofs.Told.{both_halves, same_name, told_memory, told_of}
+use Rattle.covcommand.proofs.Told.{both_halves, no_half, same_name, told_memory, told_of}
 use Rattle.covcommand.proofs.Fitting.{fits}
 use Rattle.covcommand.proofs.Simple.{simple, simple_and_free}
 use Rattle.covcommand.proofs.parsing.command.Goals as goal
@@ -82,3 +82,10 @@ returns-in-Some-clause-fits c =
     let none = ap (λ (a : App). fault_of a words) (sym c.in_ok-described.ensures)
     ∙ c.in-Ok.ensures.kinds (ap is_simple_and_free c.in_ok-described.ensures ∙ simple_and_free) in
     IfOk-weaker c.asked_from.result _ _ (λ _ _. none) c.asked_from.ensures.asks
+
+pub returns-clause-asks : goal.returns-clause-asks
+returns-clause-asks c =
+    let words = map string_bytes c.args.words.now in
+    let met = (c.in-Ok.ensures.matches (ap is_simple c.in_ok-described.ensures ∙ simple)).1
+    ∙ ap (λ (a : App). subcommand_of a words) c.in_ok-described.ensures in
+    sym met ∙ no_half (subcommand_rows_of c.in-Ok.matches) c.in-None.ensures.rows
