@@ -2,7 +2,7 @@ use Rattle.std.proofs.lemmas.Result.{err_from_is_err_and}
 use Rattle.covworld.specs.Folder.{folder_data}
 use Rattle.covcombine.specs.Steps.{MayGiveFrom, most_parts}
 use Rattle.covcombine.proofs.Stages.{ends_opened, next_part, no_part}
-use Rattle.covcombine.proofs.tracefile.Tracefile.read_part.Goals as goal
+use Rattle.covcombine.proofs.tracefile.TracefileLateInputGlobal.read_part.Goals as goal
 
 pub returns-in_err-opened-clause-next : goal.returns-in_err-opened-clause-next
 returns-in_err-opened-clause-next g c =
