@@ -1,16 +1,25 @@
 -- Which ending a call has, from the results of its steps.
-use Rattle.std.proofs.Common.{◌≡◌, ◌==◌, inl, inr, ℕ, Bool, true, false, true≢false, List, [], ◌∷◌, ◌++◌, length, Option, Some, None, refl, sym, ap, subst, ◌∙◌, arith}
+use Rattle.std.proofs.Common.{◌≡◌, ◌==◌, inl, inr, ℕ, Bool, true, false, true≢false, List, [], ◌∷◌, ◌++◌, length, Option, Some, None, Result, IfOk, OnOk, if◌then◌else◌, refl, sym, ap, subst, ◌∙◌, arith}
 use Rattle.std.proofs.lemmas.Bool.{eqb-true}
 use Rattle.covbook.specs.Op.{EntryData}
 use Rattle.covbook.specs.Step.{ops_in, table_of}
+use Rattle.covcommand.specs.declared.asked.Overview.{Overview}
+use Rattle.covcommand.specs.declared.asked.Overview.TheVariants as overviews
+use Rattle.covcommand.specs.declared.asked.TotalsForm.{TotalsForm}
+use Rattle.covcommand.specs.declared.asked.TotalsForm.TheVariants as forms
+use Rattle.covlist.specs.Chosen.{totals_of_chosen}
+use Rattle.covreport.specs.Choice.{ChoiceData}
+use Rattle.covreport.specs.Summary.{summary_of}
 use Rattle.covtable.specs.Content.{SectionData, content_at}
+use Rattle.covtable.specs.Files.{FileTotalsData, files_with_totals}
+use Rattle.covtable.specs.declared.totals.Totals.{Totals}
 use Rattle.covworkers.specs.Late.{FillHistory, IsCollectedSoFar, MayCome}
 use Rattle.covworkers.specs.Start.{AreJobs}
 use Rattle.covworkers.specs.declared.collect_fault.CollectFault.{CollectFault}
 use Rattle.covworkers.specs.declared.collect_fault.CollectFault.TheVariants as collects
 use Rattle.covworkers.specs.declared.refused.RefusedInput.{RefusedInput}
 use Rattle.covworld.specs.Folder.{FolderData}
-use Rattle.covcombine.specs.Combine.{EndingData, Fails, Gives, GivenData, end_of, failure_status, failures, fails_for, given, warnings}
+use Rattle.covcombine.specs.Combine.{EndingData, Fails, Gives, GivenData, end_of, failure_status, failures, fails_for, given, is_whole, judged_by, overview_text, pattern_lines, warnings}
 use Rattle.covcombine.specs.Combined.{Ends, of_call_fault, of_collecting}
 use Rattle.covcombine.specs.Messages.{call_fault_line}
 use Rattle.covcombine.specs.Notes.{IsOfFile}
@@ -42,6 +51,24 @@ module _ (work : CombineData) (entries : List EntryData) (notes : List (RefusedI
       ap (λ (g : GivenData). Gives g) (is ∙ ap (λ (w : List ℕ). given w work sections) same ∙ ap (λ (s : List SectionData). given (warnings work entries notes) work s) held)
       ∙ sym (ap (λ (f : List ℕ). fails_for f (warnings work entries notes) (failure_status entries notes)
       (Gives (given (warnings work entries notes) work (content_at (table_of (ops_in entries)))))) (sym told ∙ none))
+
+-- the summary of the chosen source files in words
+pub shown_words : {E : Type 0} (result : Result (List ℕ) E) (overview : Overview) (form : TotalsForm) (choice : ChoiceData) (sections : List SectionData) (totals : Totals)
+    → overview ≡ overviews.Summary → form ≡ forms.Words → totals ≡ totals_of_chosen choice sections → IfOk result (λ text. text ≡ summary_of totals)
+    → IfOk result (λ text. text ≡ overview_text overview form choice sections)
+shown_words {E} result overview form choice sections totals is_summary is_words same done =
+    subst (λ (t : List ℕ). IfOk result (λ text. text ≡ t))
+    (ap summary_of same ∙ sym (ap (λ (o : Overview). overview_text o form choice sections) is_summary ∙ ap (λ (f : TotalsForm). overview_text overviews.Summary f choice sections) is_words))
+    done
+
+-- the lines about the patterns, if the whole was added up
+pub judged_so : {A E : Type 0} (result : Result A E) (front lines after : List ℕ) (choice : ChoiceData) (entries : List EntryData) (notes : List (RefusedInput Note)) (files : List FileTotalsData)
+    → is_whole entries notes ≡ true → files ≡ files_with_totals (content_at (table_of (ops_in entries))) → OnOk result (after ≡ lines ++ pattern_lines front choice files)
+    → OnOk result (after ≡ lines ++ judged_by front choice entries notes)
+judged_so {A} {E} result front lines after choice entries notes files whole are done =
+    subst (λ (t : List ℕ). OnOk result (after ≡ lines ++ t))
+    (ap (pattern_lines front choice) are ∙ sym (ap (λ (b : Bool). if b then pattern_lines front choice (files_with_totals (content_at (table_of (ops_in entries)))) else []) whole))
+    done
 
 -- what a call gives, part by part
 pub given_so : (warned tracefile overview missed shown seen short : List ℕ) → tracefile ≡ shown → overview ≡ seen → missed ≡ short

@@ -5,8 +5,8 @@ use Rattle.memchr.specs.Find.{IsFirstByte, is_byte2}
 use Rattle.covcombine.specs.Strangers.{first_line}
 
 not_true : (b : Bool) → (b ≡ true → ⊥) → b ≡ false
-not_true true no = absurd (no refl)
-not_true false no = refl
+not_true true never = absurd (never refl)
+not_true false never = refl
 
 -- the bytes before the first place whose byte ends a line
 front_of : (xs : List ℕ) (k : ℕ) → k ≤ length xs → ((j : ℕ) → j < k → is_byte2 10 13 (get_or xs j 0) ≡ true → ⊥)

@@ -7,3 +7,4 @@ pub mod Taken
 pub mod Twice
 pub mod Endings
 pub mod Reports
+pub mod Lines

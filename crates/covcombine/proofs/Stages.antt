@@ -77,6 +77,14 @@ module _ {S : Type 0} (left : S → Option (List ℕ)) (failed_reads : S → ℕ
       subst (λ (s : SubmissionData). IsNextStage left failed_reads opened s (stages.Ended note)) (sym same)
       (last_gives submission told note same_note (subst (λ (p : NextPiece S). IsNextPiece left failed_reads opened.rest (Ok p)) is may))
 
+  -- the note of a tracefile, from what it was made of
+  pub same_note : (looked : List ℕ) (sum : Counts) (unknown : ℕ) (submission : SubmissionData) (told : Option SummaryData) (note : Note) → note ≡ note_of looked sum unknown
+      → looked ≡ opened.first → sum ≡ counts_with opened.counts (submission ∷ []) → unknown ≡ unknown_told told
+      → note ≡ note_of opened.first (counts_with opened.counts (submission ∷ [])) (unknown_told told)
+  same_note looked sum unknown submission told note is same_first same_counts same_unknown =
+      is ∙ ap (λ (f : List ℕ). note_of f sum unknown) same_first ∙ ap (λ (c : Counts). note_of opened.first c unknown) same_counts
+      ∙ ap (λ (n : ℕ). note_of opened.first (counts_with opened.counts (submission ∷ [])) n) same_unknown
+
   -- no piece
   pub no_stage : (fault : PieceFault) → IsNextPiece left failed_reads opened.rest (Err fault) → EndsWith (MayGiveOpened left failed_reads opened.first opened.counts opened.rest) (of_piece fault)
   no_stage (pieces.Refused fault) may_give = inr ([], Err fault, may_give, refl)
@@ -124,10 +132,11 @@ module _ {S : Type 0} (left : S → Option (List ℕ)) (failed_reads : S → ℕ
   )
 
 -- why there is no next part
-pub no_part : {X A : Type 0} (MayGive : X → OutcomeData Note → Type 0) (most : X → ℕ) (input : X) (stop : Stop) (fault : LateFault Note) → fault ≡ of_stop stop → EndsWith (MayGive input) stop
-    → IsNextPart {A = A} MayGive (λ one. ⊥) most input (Err fault)
-no_part {X} {A} MayGive most input stop fault is ends = subst (λ (f : LateFault Note). IsNextPart {A = A} MayGive (λ one. ⊥) most input (Err f)) (sym is) (go stop ends)
+pub no_part : {X A : Type 0} (result : Result (Part X A) (LateFault Note)) (GivesAs : X → OutcomeData Note → Type 0) (most : X → ℕ) (input : X) (stop : Stop) (found : LateFault Note)
+    → result ≡ Err found → found ≡ of_stop stop → EndsWith (GivesAs input) stop → IsNextPart GivesAs (λ one. ⊥) most input result
+no_part {X} {A} result GivesAs most input stop found is same ends =
+    subst (λ (r : Result (Part X A) (LateFault Note)). IsNextPart GivesAs (λ one. ⊥) most input r) (sym (is ∙ ap (λ (f : LateFault Note). Err f) same)) (go stop ends)
   where
-    go : (stop : Stop) → EndsWith (MayGive input) stop → IsNextPart {A = A} MayGive (λ one. ⊥) most input (Err (of_stop stop))
+    go : (stop : Stop) → EndsWith (GivesAs input) stop → IsNextPart {A = A} GivesAs (λ one. ⊥) most input (Err (of_stop stop))
     go (stops.Ended note) ends = ends
     go stops.Memory ends = tt

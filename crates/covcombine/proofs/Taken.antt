@@ -96,6 +96,13 @@ faultless options file taken rates room names (Twice name) twice = names.1 name.
 
 -- ---- an option doesn't do
 
+-- the words that were looked at are those of the option
+pub of_words : (option : CallOption) (looked words : List (List ℕ)) (fault : WorkFault) → looked ≡ words → IsPatternFault option looked fault → IsPatternFault option words fault
+of_words option looked words fault same is = subst (λ (ps : List (List ℕ)). IsPatternFault option ps fault) same is
+
+pub of_names : (looked names : List (List ℕ)) (fault : WorkFault) → looked ≡ names → IsNameFault looked fault → IsNameFault names fault
+of_names looked names fault same is = subst (λ (ns : List (List ℕ)). IsNameFault ns fault) same is
+
 pub pattern_refused : (options : CombineOptions) (file : Option (List ℕ)) (option : CallOption) (fault : WorkFault)
     → IsPatternFault option (patterns_in option options.filter) fault → IsWorkFault options file fault
 pattern_refused options file option (works.Call (ManyPatterns same)) (is, many) = subst (λ (o : CallOption). max_patterns < length (patterns_in o options.filter)) (sym is) many

@@ -68,7 +68,7 @@ pub(crate) fn end_for_fault<'b, T: Table<Global>>(
     expected: Option<u32>,
     fault: CallFault<'_>,
 ) -> Result<Ending<'b, T>, Memory>
-    ensures { IfOk result (λ ending. ending_data ending ≡ of_call_fault expected fault) }
+    ensures { IfOk result (λ ending. ending_data ending ≡ of_call_fault expected fault.entry) }
 {
     let mut lines = Bytes::new(alloc);
     put_call_fault(fault, &mut lines)?;
@@ -103,7 +103,7 @@ pub(crate) fn end_of<'b, T: Table<Global>>(
     work: Work<'_>,
     collected: &'b CollectedBook<T, Note>,
 ) -> Result<Ending<'b, T>, Memory>
-    ensures { IfOk result (λ ending. ending_data ending ≡ ends_with (work_data work) collected.now.book.entries collected.now.refused) }
+    ensures { IfOk result (λ ending. ending_data ending ≡ ends_with (work_data work.entry) collected.now.book.entries collected.now.refused) }
 {
     let warnings = warnings(alloc, &work, collected)?;
     let failures = failures(alloc, &work, collected)?;
@@ -126,7 +126,7 @@ fn given_for<'b, T: Table<Global>>(
     store: &'b T,
     warnings: Bytes,
 ) -> Result<Given<'b, T>, Memory>
-    ensures { IfOk result (λ given. given_data given ≡ given_of warnings (work_data work) (T.shown store.now).sections) }
+    ensures { IfOk result (λ given. given_data given ≡ given_of warnings (work_data work.entry) (T.shown store.now).sections) }
 {
     let Work {
         choice,

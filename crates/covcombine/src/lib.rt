@@ -115,7 +115,7 @@ fn early_end<'b, T: Table<Global>>(
     options: &CombineOptions,
     fault: WorkFault<'_>,
 ) -> Ending<'b, T>
-    ensures { (file : Option (List ℕ)) → IsWorkFault options.now file fault → StopsEarly options.now file (ending_data result) }
+    ensures { (file : Option (List ℕ)) → IsWorkFault options.now file fault.entry → StopsEarly options.now file (ending_data result) }
 {
     let WorkFault::Call(fault) = fault else {
         return no_memory();
@@ -146,7 +146,7 @@ fn do_work<
 ) -> u8
     requires { CanCall world.old }
     ensures input { world.new.input ≡ world.old.input }
-    ensures reported { (ending : EndingData) × Ends (folder_data F.Folder F.File.Source folder.now) jobs (work_data work) ending
+    ensures reported { (ending : EndingData) × Ends (folder_data F.Folder F.File.Source folder.now) jobs (work_data work.entry) ending
         × IsReported (option_map (λ name. name.now) file.entry) ending result world.old world.new }
 {
     let Ok(inputs) = tracefiles(folder, alloc, work.strictness, work.files) else {

@@ -317,7 +317,7 @@ pub(crate) fn put_cut(name: &[u8], lines: &mut Bytes) -> Result<(), Memory>
 
 /// Appends the line about a wrong call.
 pub(crate) fn put_call_fault(fault: CallFault<'_>, lines: &mut Bytes) -> Result<(), Memory>
-    ensures { OnOk result (lines.new ≡ lines.old ++ call_fault_line fault) }
+    ensures { OnOk result (lines.new ≡ lines.old ++ call_fault_line fault.entry) }
 {
     match fault {
         CallFault::ManyPatterns(option) => put_error(option, b": more than 64 patterns", lines),

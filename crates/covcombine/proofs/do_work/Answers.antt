@@ -36,8 +36,8 @@ end_for_collecting-requires g c =
     c.args.folder.now c.args.work.strictness (folder_data g.F.Folder g.F.File.Source) g.F.File.Source.left g.F.File.Source.failed_reads
     c.in-Ok.inputs.items c.in-Err-Collect.field-0 c.in-Err-Collect.ensures.unread c.in-Err-Collect.fault c.in-Err-Collect.field-0-is)
 
-pub returns-clause-reported : goal.returns-clause-reported
-returns-clause-reported g c =
+pub returns-in-Err-Collect-clause-reported : goal.returns-in-Err-Collect-clause-reported
+returns-in-Err-Collect-clause-reported g c =
     work_told (folder_data g.F.Folder g.F.File.Source c.args.folder.now) c.args.jobs (work_data c.args.work) _ _ _ _ _
     (ends_uncollected (folder_data g.F.Folder g.F.File.Source c.args.folder.now) c.args.jobs (work_data c.args.work) _ c.in-Err-Collect.fault
     (λ is. (c.in-Err-Collect.ensures.bad).0 (ap (λ fault. Err fault) (c.in-Err-Collect.field-0-is ∙ ap (λ fault. into_book.Collect fault) is)))
@@ -48,8 +48,8 @@ returns-clause-reported g c =
     (c.end_for_collecting.ensures ∙ ap of_collecting c.in-Err-Collect.fault-is))
     c.report-in-Err-Collect.ensures.reported
 
-pub prove-unreachable-requires : goal.prove-unreachable-requires
-prove-unreachable-requires g c =
+pub unreachable-requires : goal.unreachable-requires
+unreachable-requires g c =
     none_unread (record { own = λ one. one.folder.now; name = λ one. one.name.now; strictness = λ one. one.strictness; stage = λ one. one.stage })
     c.args.folder.now c.args.work.strictness (folder_data g.F.Folder g.F.File.Source) g.F.File.Source.left g.F.File.Source.failed_reads
     c.in-Ok.inputs.items c.in-Err-Unread.field-0 c.in-Err-Unread.ensures.unread _ c.in-Err-Unread.field-0-is

@@ -1,7 +1,7 @@
-use Rattle.std.proofs.Common.{List, ℕ, refl, subst}
+use Rattle.std.proofs.Common.{refl, subst}
 use Rattle.std.proofs.lemmas.Result.{err_from_is_err_and}
-use Rattle.covcombine.specs.Steps.{AreNames, IsNameFault}
-use Rattle.covcombine.proofs.Taken.{faultless, name_refused, pattern_refused, rate_refused}
+use Rattle.covcombine.specs.Steps.{AreNames}
+use Rattle.covcombine.proofs.Taken.{faultless, name_refused, of_names, pattern_refused, rate_refused}
 use Rattle.covcombine.proofs.work.work_of.Goals as goal
 
 pub returns-in_err-choice-clause-fault : goal.returns-in_err-choice-clause-fault
@@ -19,7 +19,7 @@ returns-in_err-limits-clause-fault c =
 pub returns-in_err-check_names-clause-fault : goal.returns-in_err-check_names-clause-fault
 returns-in_err-check_names-clause-fault c =
     let told = err_from_is_err_and c.from_residual-in_err-check_names.result c.from_residual-in_err-check_names.ensures.1 in
-    rw (told.1, told.2) (name_refused c.args.options.now _ _ (subst (λ (names : List (List ℕ)). IsNameFault names c.in_err-check_names.field-0) c.get.ensures c.in_err-check_names.ensures.fault))
+    rw (told.1, told.2) (name_refused c.args.options.now _ _ (of_names _ _ _ c.get.ensures c.in_err-check_names.ensures.fault))
 
 pub returns-clause-work : goal.returns-clause-work
 returns-clause-work c = record {

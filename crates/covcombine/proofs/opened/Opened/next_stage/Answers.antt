@@ -1,8 +1,6 @@
-use Rattle.std.proofs.Common.{◌≡◌, [], ◌∷◌, refl}
+use Rattle.std.proofs.Common.{refl}
 use Rattle.std.proofs.lemmas.Result.{err_from_is_err_and}
-use Rattle.covcombine.specs.Notes.{note_of}
-use Rattle.covcombine.specs.Steps.{counts_with, unknown_told}
-use Rattle.covcombine.proofs.Stages.{last_stage, more_stage, no_stage}
+use Rattle.covcombine.proofs.Stages.{last_stage, more_stage, no_stage, same_note}
 use Rattle.covcombine.proofs.opened.Opened.next_stage.Goals as goal
 
 pub returns-in_err-piece-clause-ended : goal.returns-in_err-piece-clause-ended
@@ -32,6 +30,8 @@ returns-in_err-given-in-Last-clause-ended g c =
 
 pub returns-in_ok-given-in-Last-clause-next : goal.returns-in_ok-given-in-Last-clause-next
 returns-in_ok-given-in-Last-clause-next g c =
-    let same : c.in_ok-note-in-Last.note ≡ note_of c.args.self.first (counts_with c.args.self.counts (c.in-Last.submission ∷ [])) (unknown_told c.in-Last.held) = cc in
     last_stage g.S.Source.left g.S.Source.failed_reads c.args.self c.in-Last.submission c.in_ok-given-in-Last.given c.in-Last.held c.in_ok-note-in-Last.note
-    c.in_ok-piece.piece c.in-Last.is c.in_ok-given-in-Last.ensures same c.in_ok-piece.ensures
+    c.in_ok-piece.piece c.in-Last.is c.in_ok-given-in-Last.ensures
+    (same_note g.S.Source.left g.S.Source.failed_reads c.args.self c.get.result.now c.and-counts-in-Last.result c.unknown_in.result c.in-Last.submission c.in-Last.held
+    c.in_ok-note-in-Last.note c.in_ok-note-in-Last.ensures c.get.ensures c.and-counts-in-Last.ensures c.unknown_in.ensures)
+    c.in_ok-piece.ensures
