@@ -34,18 +34,18 @@ module _ {K X Y : Type 0} (name : K → List ℕ) (f : X → Y) (key : List ℕ)
 -- ---- the file with a name
 
 module _ {A : Type 0} (members : ℕ) (committed : Totals) (pairs : List (Vec ℕ A × File A)) (is : IsStore members committed (files_committed file_name pairs)) (file : List ℕ) where
-  pub few_of_found : (found : File A) → lookup (has_name (file_name {A}) file) pairs ≡ Some found → AllByRecursion IsFewOf (sections_of_file (file, file_committed found))
+  pub few_of_found : (found : File A) → lookup (has_name (file_name {A = A}) file) pairs ≡ Some found → AllByRecursion IsFewOf (sections_of_file (file, file_committed found))
   few_of_found found e =
       let files = files_committed file_name pairs in
       let pair : List ℕ × FileData = (file, file_committed found) in
       All-from IsFewOf (sections_of_file pair)
       (λ section i. All-in IsFewOf (sections_of files) section (few_of_store members committed files is)
-      (In-flat sections_of_file files pair section (In-found (file_name {A}) file_committed file pairs found e) i))
+      (In-flat sections_of_file files pair section (In-found (file_name {A = A}) file_committed file pairs found e) i))
 
-  pub own_found : (found : File A) → lookup (has_name (file_name {A}) file) pairs ≡ Some found → sections_of_file (file, file_committed found) ≡ own_sections file (sections_of (files_committed file_name pairs))
+  pub own_found : (found : File A) → lookup (has_name (file_name {A = A}) file) pairs ≡ Some found → sections_of_file (file, file_committed found) ≡ own_sections file (sections_of (files_committed file_name pairs))
   own_found found e =
-      sym (own_seen (files_committed file_name pairs) is.state.ascending (file, file_committed found) (In-found (file_name {A}) file_committed file pairs found e))
+      sym (own_seen (files_committed file_name pairs) is.state.ascending (file, file_committed found) (In-found (file_name {A = A}) file_committed file pairs found e))
 
-  pub own_unfound : lookup (has_name (file_name {A}) file) pairs ≡ None → [] ≡ own_sections file (sections_of (files_committed file_name pairs))
+  pub own_unfound : lookup (has_name (file_name {A = A}) file) pairs ≡ None → [] ≡ own_sections file (sections_of (files_committed file_name pairs))
   own_unfound none =
-      sym (own_none file (files_committed file_name pairs) (λ pair i. unfound (file_name {A}) file_committed file pairs none pair i))
+      sym (own_none file (files_committed file_name pairs) (λ pair i. unfound (file_name {A = A}) file_committed file pairs none pair i))

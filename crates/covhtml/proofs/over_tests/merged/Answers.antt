@@ -12,7 +12,7 @@ loop-point-preserved g c =
     let at = c.loop-point.point-index in
     let next : drop at one ≡ c.point-item.result ∷ drop (at + 1) one =
     drop_more one at c.point-item.result c.loop-point-test.true ∙ ap (λ x. x ∷ drop (at + 1) one) (sym c.point-item.is) in
-    c.in_ok-push_up_to.ensures (λ rest. merged_points it.order it.sum (map value (drop (at + 1) one)) rest)
+    c.in_ok-rest.ensures (λ rest. merged_points it.order it.sum (map value (drop (at + 1) one)) rest)
     ∙ ap (λ ps. map value c.loop-point.all.items ++ merged_points it.order it.sum (map value ps) (map value c.loop-point.rest.now)) (sym next)
     ∙ c.loop-point.invariant
 
@@ -28,9 +28,9 @@ loop-point-2-preserved g c =
     let value = g.X.TestedPoint.value in
     let rest = c.loop-point.rest.now in
     let at = c.loop-point-2.point-index in
-    let next : drop at rest ≡ c.point-item-2.result ∷ drop (at + 1) rest =
-    drop_more rest at c.point-item-2.result c.loop-point-2-test.true ∙ ap (λ x. x ∷ drop (at + 1) rest) (sym c.point-item-2.is) in
-    collects value _ c.loop-point-2.all.items c.push.new.self.items c.point-item-2.result (map value (drop at rest)) (map value (drop (at + 1) rest))
+    let next : drop at rest ≡ c.point-item-in-loop-point-2.result ∷ drop (at + 1) rest =
+    drop_more rest at c.point-item-in-loop-point-2.result c.loop-point-2-test.true ∙ ap (λ x. x ∷ drop (at + 1) rest) (sym c.point-item-in-loop-point-2.is) in
+    collects value _ c.loop-point-2.all.items c.push.new.self.items c.point-item-in-loop-point-2.result (map value (drop at rest)) (map value (drop (at + 1) rest))
     (ap (map value) next) c.loop-point-2.invariant c.in_ok-push.ensures.items
 
 pub returns : goal.returns

@@ -9,5 +9,5 @@ invariant-loop-point g l =
 
 abbrev pub invariant-loop-point-2 : goal.invariant-loop-point-2
 invariant-loop-point-2 g l =
-    map g.X.TestedPoint.value l.all.items ++ map g.X.TestedPoint.value (drop l.point-index l.rest)
+    map g.X.TestedPoint.value l.all.items ++ map g.X.TestedPoint.value (drop l.point-index l.point-items)
     ≡ merged_points g.X.TestedPoint.order g.X.TestedPoint.sum (map g.X.TestedPoint.value l.one) (map g.X.TestedPoint.value l.other)

@@ -1,6 +1,5 @@
-use Rattle.std.proofs.Common.{◌≡◌, ◌+◌, ◌∷◌, List, OnOk, drop, map, ap, sym, subst, ◌∙◌}
+use Rattle.std.proofs.Common.{◌≡◌, ◌+◌, List, OnOk, drop, map, ap, subst}
 use Rattle.std.proofs.lemmas.List.{drop_all, drop_more}
-use Rattle.covtable.specs.declared.values.LineValue.{LineValue}
 use Rattle.covtable.specs.ValuesView.{branch_data, line_data}
 use Rattle.covhtml.specs.RowView.{row_data}
 use Rattle.covhtml.specs.Rows.{RowData}
@@ -8,7 +7,12 @@ use Rattle.covhtml.proofs.Fronts.{line_put, lines_end}
 use Rattle.covhtml.proofs.section_rows.push_rows.Goals as goal
 
 pub loop-line-preserved : goal.loop-line-preserved
-loop-line-preserved g c = let h = c.push_line_rows-arg-1 in ?
+loop-line-preserved g c =
+    let lines = c.args.lines.now in
+    let at = c.loop-line.line-index in
+    line_put _ (map line_data (drop at lines)) (map line_data (drop (at + 1) lines)) (map branch_data c.loop-line.rest.now) (map branch_data c.branches_after-rest.result.now)
+    (map row_data c.loop-line.rows.items) (map row_data c.push_line_rows.new.rows.items) _
+    (ap (map line_data) (drop_more lines at _ c.loop-line-test.true)) c.branches_after-rest.ensures c.in_ok-push_line_rows.ensures c.loop-line.invariant
 
 pub returns : goal.returns
 returns g c =

@@ -24,8 +24,8 @@ returns-in-Some g c =
     ∙ ap (λ (file : List ℕ). own_sections file all) c.in_ok-path.ensures.items
     ∙ ap (λ (store : StoreData). own_sections c.args.file.now store.sections) c.self.view_is
 
-pub returns-in-None : goal.returns-in-None
-returns-in-None g c =
+pub returns : goal.returns
+returns g c =
     let inside = c.self.inside in
     let path = c.in_ok-path.path.items in
     let all = sections_of (files_committed file_name inside.files.entries) in
