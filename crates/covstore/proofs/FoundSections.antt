@@ -1,5 +1,5 @@
 -- The sections of one file of a store, by what a look-up of the file's name finds.
-use Rattle.covstore.proofs.Words.{◌≡◌, ℕ, Bool, true, false, cond, Some, None, Vec, List, [], ◌∷◌, refl, sym, ap, ◌∙◌, subst, inl, inr, slice_cmp, Equal, nat_cmp, is_eq, tells_apart, names_order, AllByRecursion, lookup, same_Some, Totals, File, FileData, IsStore, SectionData, files_committed, file_committed, sections_of, sections_of_file, own_sections, All-from, All-in, In, In-flat, In-unmap}
+use Rattle.covstore.proofs.Words.{◌≡◌, ℕ, Bool, true, false, cond, Some, None, Vec, List, [], ◌∷◌, refl, sym, ap, ◌∙◌, inl, inr, slice_cmp, Equal, nat_cmp, is_eq, tells_apart, names_order, AllByRecursion, lookup, same_Some, Totals, File, FileData, IsStore, files_committed, file_committed, sections_of, sections_of_file, own_sections, All-from, All-in, In, In-flat, In-unmap}
 use Rattle.covstore.specs.ContentView.{IsFewOf}
 use Rattle.covstore.proofs.MapNames.{All-unfound, has_name, named, names_with}
 use Rattle.covstore.proofs.SeenStore.{few_of_store}

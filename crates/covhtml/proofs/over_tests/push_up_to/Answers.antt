@@ -1,4 +1,4 @@
-use Rattle.std.proofs.Common.{[], ◌∷◌, ◌++◌, List, map, sym, ap, ◌∙◌}
+use Rattle.std.proofs.Common.{◌≡◌, [], ◌∷◌, ◌++◌, List, map, sym, ap, ◌∙◌}
 use Rattle.covhtml.specs.Points.{merged_after}
 use Rattle.covhtml.proofs.Fronts.{pushed}
 use Rattle.covhtml.proofs.LaterRows.{none_seen}
