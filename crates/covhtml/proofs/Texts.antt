@@ -6,11 +6,11 @@ use Rattle.std.proofs.lemmas.List.Concat.{flat_map-cons}
 
 -- ---- pieces
 
-two : (t t1 t2 a b : List ℕ) → t1 ≡ t ++ a → t2 ≡ t1 ++ b
+pub two : (t t1 t2 a b : List ℕ) → t1 ≡ t ++ a → t2 ≡ t1 ++ b
     → t2 ≡ t ++ (a ++ b)
 two t t1 t2 a b put1 put2 = put2 ∙ ap (λ (x : List ℕ). x ++ b) put1 ∙ append_assoc t a b
 
-three : (t t1 t2 t3 a b c : List ℕ) → t1 ≡ t ++ a → t2 ≡ t1 ++ b → t3 ≡ t2 ++ c
+pub three : (t t1 t2 t3 a b c : List ℕ) → t1 ≡ t ++ a → t2 ≡ t1 ++ b → t3 ≡ t2 ++ c
     → t3 ≡ t ++ (a ++ b ++ c)
 three t t1 t2 t3 a b c put1 put2 put3 =
     two t t2 t3 (a ++ b) c (two t t1 t2 a b put1 put2) put3

@@ -1,6 +1,5 @@
-use Rattle.std.proofs.Common.{◌≡◌, ◌+◌, ◌∷◌, List, OnOk, drop, map, ap, sym, subst, ◌∙◌}
+use Rattle.std.proofs.Common.{◌≡◌, ◌+◌, List, OnOk, drop, map, ap, subst}
 use Rattle.std.proofs.lemmas.List.{drop_all, drop_more}
-use Rattle.covtable.specs.declared.values.LineValue.{LineValue}
 use Rattle.covtable.specs.ValuesView.{branch_data, line_data}
 use Rattle.covhtml.specs.RowView.{row_data}
 use Rattle.covhtml.specs.Rows.{RowData}
@@ -9,12 +8,11 @@ use Rattle.covhtml.proofs.section_rows.push_rows.Goals as goal
 
 pub loop-line-preserved : goal.loop-line-preserved
 loop-line-preserved g c =
-    let next : drop c.loop-line.line-index c.args.lines.now ≡ c.line-item.result ∷ drop (c.loop-line.line-index + 1) c.args.lines.now =
-    drop_more c.args.lines.now c.loop-line.line-index c.line-item.result c.loop-line-test.true
-    ∙ ap (λ (l : LineValue). l ∷ drop (c.loop-line.line-index + 1) c.args.lines.now) (sym c.line-item.is) in
-    line_put (line_data c.line-item.result) _ (map line_data (drop (c.loop-line.line-index + 1) c.args.lines.now)) (map branch_data c.loop-line.rest.now) (map branch_data c.branches_after-rest.result.now)
+    let lines = c.args.lines.now in
+    let at = c.loop-line.line-index in
+    line_put _ (map line_data (drop at lines)) (map line_data (drop (at + 1) lines)) (map branch_data c.loop-line.rest.now) (map branch_data c.branches_after-rest.result.now)
     (map row_data c.loop-line.rows.items) (map row_data c.push_line_rows.new.rows.items) _
-    (ap (map line_data) next) c.branches_after-rest.ensures c.in_ok-push_line_rows.ensures c.loop-line.invariant
+    (ap (map line_data) (drop_more lines at _ c.loop-line-test.true)) c.branches_after-rest.ensures c.in_ok-push_line_rows.ensures c.loop-line.invariant
 
 pub returns : goal.returns
 returns g c =
