@@ -3,16 +3,17 @@ use Rattle.std.proofs.Common.{◌≡◌, ℕ, suc, ◌+◌, Bool, true, false, c
 use Rattle.std.proofs.lemmas.Bool.{cond-true, cond-false}
 use Rattle.std.proofs.lemmas.List.{map-append}
 use Rattle.std.proofs.lemmas.List.Elements.{filter-append}
-use Rattle.covhtml.specs.IndexPage.{IndexedFileData}
+use Rattle.covhtml.specs.DirectoryPages.{IndexedDirectoryData, directory_page, directory_page_name}
+use Rattle.covhtml.specs.IndexPage.{DirectoryData, IndexedFileData}
 use Rattle.covhtml.specs.PageName.{page_name}
 use Rattle.covlist.specs.Chosen.{chosen_among}
-use Rattle.covpages.specs.Pages.{PagesWorkData, AreSources, complaints_of, indexed_after, page_of, pages_after, place_of}
+use Rattle.covpages.specs.Pages.{PagesWorkData, AreSources, complaints_of, directory_pages, indexed_after, linked_after, page_of, pages_after, place_of}
 use Rattle.covpages.specs.Sources.{SourceData, IsSource, complaint_of}
 use Rattle.covpages.specs.Steps.{AreAdded, AreFinished, IsNext, IsSoFar, ProgressData}
 use Rattle.covreport.specs.Choice.{is_chosen}
 use Rattle.covtable.specs.Content.{SectionData}
 use Rattle.covtable.specs.Files.{FileTotalsData}
-use Rattle.covworld.specs.OutputFiles.{AddsName, Finishes, IsEmptyIfKnown, OutputFilesData, path_in}
+use Rattle.covworld.specs.OutputFiles.{AddsName, Finishes, OutputFilesData}
 
 abbrev Finished : Type 0
 Finished = Option (List (List ℕ × List ℕ))
@@ -153,3 +154,24 @@ module _ (work : PagesWorkData) (sections : List SectionData) where
     pub passes_on : is_chosen work.choice file.path ≡ false → IsSoFar work sections (chosen_among work.choice more) old files middle
     passes_on passes =
         subst (λ (l : List FileTotalsData). IsSoFar work sections l old files middle) (sym (passed_more front more file is passes)) so_far
+
+-- ---- the pages of one more directory
+
+pub directory_pages_on : (number last : ℕ) (front : List DirectoryData) (d : DirectoryData) → last ≡ number + length front
+    → directory_pages number (front ++ d ∷ []) ≡ directory_pages number front ++ (directory_page_name (last + 1) d.path, directory_page d) ∷ []
+directory_pages_on number last [] d is =
+    let same : number ≡ last = omega arith in
+    ap (λ (n : ℕ). (directory_page_name (n + 1) d.path, directory_page d) ∷ []) same
+directory_pages_on number last (e ∷ front) d is =
+    let more : last ≡ number + 1 + length front = omega arith in
+    ap (λ (l : List (List ℕ × List ℕ)). (directory_page_name (number + 1) e.path, directory_page e) ∷ l) (directory_pages_on (number + 1) last front d more)
+
+pub linked_on : (number last : ℕ) (front : List DirectoryData) (d : DirectoryData) → last ≡ number + length front
+    → linked_after number (front ++ d ∷ []) ≡ linked_after number front ++ linked_after last (d ∷ [])
+linked_on number last [] d is =
+    let same : number ≡ last = omega arith in
+    ap (λ (n : ℕ). linked_after n (d ∷ [])) same
+linked_on number last (e ∷ front) d is =
+    let more : last ≡ number + 1 + length front = omega arith in
+    let here : IndexedDirectoryData = record { page = directory_page_name (number + 1) e.path; path = e.path; totals = e.totals } in
+    ap (λ (l : List IndexedDirectoryData). here ∷ l) (linked_on (number + 1) last front d more)

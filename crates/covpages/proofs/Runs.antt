@@ -17,18 +17,13 @@ use Rattle.covtable.proofs.Ascend.{In-ascending, In-to_ascending, ascending_sort
 use Rattle.covtable.proofs.ContentsLists.{In-filter, In-unfilter}
 use Rattle.covtable.proofs.Members.{All-in, In, In-map, In-unmap}
 use Rattle.covtable.proofs.Orders.{names_order}
-use Rattle.covpages.specs.Directories.{count_in, directories_of, directory_of, directory_paths, directory_with, files_of, onto_directories, runs_of, totals_together}
+use Rattle.covpages.specs.Directories.{HaveSameFiles, Rises, count_in, directories_of, directory_of, directory_paths, directory_with, files_of, onto_directories, runs_of, totals_together}
 
 abbrev pub dir : IndexedFileData → List ℕ
 dir file = directory_of file.path
 
 abbrev order : List ℕ → List ℕ → Ordering
 order = slice_cmp nat_cmp
-
--- each file's directory is at most that of each file after it
-abbrev pub Rises : List IndexedFileData → Type 0
-Rises [] = Unit {0}
-Rises (f ∷ fs) = AllByRecursion (λ g. is_gt (order (dir f) (dir g)) ≡ false) fs × Rises fs
 
 -- ---- tests of directories
 
@@ -142,10 +137,6 @@ runs_are_directories (f ∷ fs) rises =
     ∙ onto f fs (directory_paths fs) refl (ascending_sorted names_order.total (map dir fs)) rises.0
 
 -- ---- files in another order
-
--- of each directory, both lists have the same files in the same order
-abbrev pub HaveSameFiles : List IndexedFileData → List IndexedFileData → Type 0
-HaveSameFiles fs gs = (d : List ℕ) → files_of fs d ≡ files_of gs d
 
 paths_within : (fs gs : List IndexedFileData) → HaveSameFiles fs gs → (d : List ℕ) → In d (directory_paths fs) → In d (directory_paths gs)
 paths_within fs gs same d i =
