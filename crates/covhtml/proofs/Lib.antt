@@ -4,6 +4,7 @@ pub mod Digits
 pub mod Fronts
 pub mod LastNames
 pub mod LaterRows
+pub mod Merged
 pub mod NamesApart
 pub mod PointsKept
 pub mod ReadAgain

@@ -6,7 +6,7 @@ use Rattle.std.proofs.lemmas.List.Concat.{flat_map-cons}
 
 -- ---- pieces
 
-two : (t t1 t2 a b : List ℕ) → t1 ≡ t ++ a → t2 ≡ t1 ++ b
+pub two : (t t1 t2 a b : List ℕ) → t1 ≡ t ++ a → t2 ≡ t1 ++ b
     → t2 ≡ t ++ (a ++ b)
 two t t1 t2 a b put1 put2 = put2 ∙ ap (λ (x : List ℕ). x ++ b) put1 ∙ append_assoc t a b
 

@@ -23,11 +23,11 @@ mod cells;
 mod directory_pages;
 mod frame;
 mod index_page;
-mod joined;
 pub mod laws;
 mod markup;
 mod names;
 mod numbers;
+mod over_tests;
 mod pages;
 mod points;
 mod rates;
@@ -40,8 +40,8 @@ mod style_sheet;
 
 pub use directory_pages::{put_directory_index, put_directory_page};
 pub use index_page::{name_of, put_index_page};
-pub use joined::{joined, tests_of};
 pub use names::{directory_page_name, page_name};
+pub use over_tests::{joined, tests_of};
 pub use pages::{
     Directory, DirectoryIndex, IndexPage, IndexedDirectory, IndexedFile, SourcePage, TestTotals,
 };

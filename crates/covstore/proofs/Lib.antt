@@ -102,6 +102,7 @@ pub mod AddsPoints
 pub mod CopiesMap
 pub mod CopiesFile
 pub mod NamedFiles
+pub mod FoundSections
 pub mod Ready
 pub mod RenamedStore
 pub mod Crossing

@@ -18,7 +18,7 @@ module _ {K : Type 0} (name : K → List ℕ) (key : List ℕ) where
   abbrev pub has_name : K → Bool
   has_name k = is_eq (slice_cmp nat_cmp key (name k))
 
-  named : (k : K) → has_name k ≡ true → name k ≡ key
+  pub named : (k : K) → has_name k ≡ true → name k ≡ key
   named k e = sym (tells_apart names_order.exact key (name k) e)
 
   not_named : (k : K) → has_name k ≡ false → name k ≡ key → ⊥

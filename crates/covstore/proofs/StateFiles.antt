@@ -29,7 +29,7 @@ not_own file pair other section i =
 own_all : (pair : List ℕ × FileData) → filter (λ s. bytes_eq s.key.file pair.0) (sections_of_file pair) ≡ sections_of_file pair
 own_all pair = keep_all (λ s. bytes_eq s.key.file pair.0) (sections_of_file pair) (is_own pair.0 pair refl)
 
-own_none : (file : List ℕ) (files : List (List ℕ × FileData)) → ((pair : List ℕ × FileData) → In pair files → pair.0 ≡ file → ⊥) → own_sections file (sections_of files) ≡ []
+pub own_none : (file : List ℕ) (files : List (List ℕ × FileData)) → ((pair : List ℕ × FileData) → In pair files → pair.0 ≡ file → ⊥) → own_sections file (sections_of files) ≡ []
 own_none file files apart =
     keep_none (λ s. bytes_eq s.key.file file) (sections_of files)
     (λ section i. let pair = In-unflat sections_of_file files section i in not_own file pair.0 (apart pair.0 pair.1) section pair.2)

@@ -8,13 +8,7 @@ use Rattle.covhtml.proofs.Fronts.{line_put, lines_end}
 use Rattle.covhtml.proofs.section_rows.push_rows.Goals as goal
 
 pub loop-line-preserved : goal.loop-line-preserved
-loop-line-preserved g c =
-    let next : drop c.loop-line.line-index c.args.lines.now ≡ c.line-item.result ∷ drop (c.loop-line.line-index + 1) c.args.lines.now =
-    drop_more c.args.lines.now c.loop-line.line-index c.line-item.result c.loop-line-test.true
-    ∙ ap (λ (l : LineValue). l ∷ drop (c.loop-line.line-index + 1) c.args.lines.now) (sym c.line-item.is) in
-    line_put (line_data c.line-item.result) _ (map line_data (drop (c.loop-line.line-index + 1) c.args.lines.now)) (map branch_data c.loop-line.rest.now) (map branch_data c.branches_after-rest.result.now)
-    (map row_data c.loop-line.rows.items) (map row_data c.push_line_rows.new.rows.items) _
-    (ap (map line_data) next) c.branches_after-rest.ensures c.in_ok-push_line_rows.ensures c.loop-line.invariant
+loop-line-preserved g c = let h = c.push_line_rows-arg-1 in ?
 
 pub returns : goal.returns
 returns g c =

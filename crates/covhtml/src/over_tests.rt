@@ -26,7 +26,7 @@ pub fn joined<'s, A: Allocator + Copy>(
     alloc: A,
     sections: Vec<SectionPoints<'s, A>, A>,
 ) -> Result<Points<'s, A>, Memory>
-    ensures { IfOk result (λ points. points_data points ≡ points_of (map section_data sections.items)) }
+    ensures { IfOk result (λ points. points_data points ≡ points_of (map section_data sections.entry.items)) }
 {
     let mut left = sections;
     let Some(last) = left.pop() else {
