@@ -81,6 +81,7 @@ impl<'a, R: Files + RandomSource + AllocGlobal> UnfinishedFolder<'a, R> {
     fn open(&mut self, name: &str) -> Result<UnfinishedFile<R::File>, OutputFault>
         ensures fresh { IfOk result (λ file. ⟦<UnfinishedFile<R::File> as Sink>⟧.failed_writes file ≡ 0) }
         ensures begun { OnOk result (option_map string_bytes self.new.begun ≡ Some name.now) }
+        ensures same { OnErr result (self.new.begun ≡ self.old.begun) }
         ensures failed { self.new.failed ≡ self.old.failed }
         ensures folder { self.new.folder ≡ self.old.folder }
     {
@@ -95,6 +96,7 @@ impl<'a, R: Files + RandomSource + AllocGlobal> UnfinishedFolder<'a, R> {
     fn store(&mut self, file: UnfinishedFile<R::File>, name: &str) -> Result<(), OutputFault>
         ensures files { OnOk result (self.new.folder.files.all ≡ self.old.folder.files.all ++ name.now ∷ []) }
         ensures same { OnErr result (self.new.folder ≡ self.old.folder) }
+        ensures target { self.new.target ≡ self.old.target }
         ensures begun { self.new.begun ≡ self.old.begun }
         ensures failed { self.new.failed ≡ self.old.failed }
     {
