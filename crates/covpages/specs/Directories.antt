@@ -1,7 +1,8 @@
 -- The source files of the index, by their directories.
-use Rattle.std.specs.Prelude.{ℕ, suc, ◌-◌, if◌then◌else◌, List, [], ◌∷◌, length, take, map, filter, flat_map, codes}
+use Rattle.std.specs.Prelude.{◌≡◌, ℕ, suc, ◌-◌, false, if◌then◌else◌, List, [], ◌∷◌, length, take, map, filter, codes}
 use Rattle.std.specs.Cmp.Lexicographic.{slice_cmp}
-use Rattle.std.specs.Ordering.{nat_cmp}
+use Rattle.std.specs.List.{AllByRecursion}
+use Rattle.std.specs.Ordering.{is_gt, nat_cmp}
 use Rattle.std.specs.Str.{bytes_eq}
 use Rattle.covhtml.specs.IndexPage.{DirectoryData, IndexedFileData, name_of}
 use Rattle.covtable.specs.Ascending.{ascending}
@@ -41,9 +42,15 @@ directories_of files = map (directory_with files) (directory_paths files)
 
 -- ---- private steps
 
--- the files by their directories, which ascend
-abbrev pub sorted_files : List IndexedFileData → List IndexedFileData
-sorted_files files = flat_map (files_of files) (directory_paths files)
+-- each file's directory is at most that of each file after it
+abbrev pub Rises : List IndexedFileData → Type 0
+Rises [] = Unit {0}
+Rises (file ∷ files) =
+    AllByRecursion (λ after. is_gt (slice_cmp nat_cmp (directory_of file.path) (directory_of after.path)) ≡ false) files × Rises files
+
+-- of each directory, both lists have the same files in the same order
+abbrev pub HaveSameFiles : List IndexedFileData → List IndexedFileData → Type 0
+HaveSameFiles files others = (directory : List ℕ) → files_of files directory ≡ files_of others directory
 
 -- how many files come before the first one that isn't in this directory
 abbrev pub count_in : (directory : List ℕ) → List IndexedFileData → ℕ

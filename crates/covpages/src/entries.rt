@@ -1,15 +1,19 @@
 //! The source files that the index lists, by their directories.
 
-ghost use Rattle.std.specs.Prelude.{◌≡◌, ◌++◌, ◌≤◌, length, IfOk, map};
+ghost use Rattle.std.specs.Prelude.{◌≡◌, ◌≤◌, length, IfOk, OnOk, map};
+ghost use Rattle.std.specs.Cmp.Lexicographic.{slice_cmp};
+ghost use Rattle.std.specs.Ordering.{nat_cmp};
 ghost use Rattle.covhtml.specs.PagesView.{directory_data, indexed_directory_data, indexed_file_data};
-ghost use Rattle.covpages.specs.Directories.{count_in as count_in_directory, directory_of as directory_of_path, runs_of, sorted_files, totals_together};
+ghost use Rattle.covpages.specs.Directories.{HaveSameFiles, Rises, count_in as count_in_directory, directories_of, directory_of as directory_of_path, totals_together};
 ghost use Rattle.covpages.specs.View.{entry_data, linked_data};
 ghost use Rattle.covtable.specs.Totals.{AreTotals};
+ghost use Rattle.covtable.specs.TotalsExchanged.{FitTotals};
 
 use covdata::{Bytes, Memory};
 use covhtml::{Directory, IndexedDirectory, IndexedFile, name_of};
 use covtable::Totals;
 use std::alloc::Global;
+use std::cmp::Ordering;
 
 /// A source file that has a page.
 #[derive(Drop)]
@@ -58,7 +62,21 @@ pub(crate) fn indexed<'e>(
     alloc: Global,
     entries: &'e [Entry<'e>],
 ) -> Result<Vec<IndexedFile<'e>>, Memory>
-    ensures { IfOk result (λ files. map indexed_file_data files.items ≡ sorted_files (map entry_data entries.now)) }
+    ensures rises { IfOk result (λ files. Rises (map indexed_file_data files.items)) }
+    ensures same { IfOk result (λ files. HaveSameFiles (map indexed_file_data files.items) (map entry_data entries.now)) }
+    ensures totals { IfOk result (λ files. totals_together (map indexed_file_data files.items) ≡ totals_together (map entry_data entries.now)) }
+{
+    let mut files = files_of(alloc, entries)?;
+    sort(&mut files)?;
+    Ok(files)
+}
+
+/// The files of these entries, in their order.
+fn files_of<'e>(
+    alloc: Global,
+    entries: &'e [Entry<'e>],
+) -> Result<Vec<IndexedFile<'e>>, Memory>
+    ensures { IfOk result (λ files. map indexed_file_data files.items ≡ map entry_data entries.now) }
 {
     let mut files = Vec::new(alloc);
     for entry in entries {
@@ -68,8 +86,24 @@ pub(crate) fn indexed<'e>(
             totals: entry.totals,
         })?;
     }
-    files.sort_by(|one, other| directory_of(one.path).cmp(&directory_of(other.path)))?;
     Ok(files)
+}
+
+/// Sorts files by their directories. The files of a directory keep their order.
+fn sort(files: &mut Vec<IndexedFile<'_>>) -> Result<(), Memory>
+    ensures rises { OnOk result (Rises (map indexed_file_data files.new.items)) }
+    ensures same { OnOk result (HaveSameFiles (map indexed_file_data files.new.items) (map indexed_file_data files.old.items)) }
+    ensures totals { OnOk result (totals_together (map indexed_file_data files.new.items) ≡ totals_together (map indexed_file_data files.old.items)) }
+{
+    files.sort_by(by_directory)?;
+    Ok(())
+}
+
+/// Compares the directories of two files.
+fn by_directory(one: &IndexedFile<'_>, other: &IndexedFile<'_>) -> Ordering
+    ensures { result ≡ slice_cmp nat_cmp (directory_of_path one.now.path.now) (directory_of_path other.now.path.now) }
+{
+    directory_of(one.path).cmp(directory_of(other.path))
 }
 
 /// The directories of files that are in the order of their directories.
@@ -77,8 +111,9 @@ pub(crate) fn directories<'e>(
     alloc: Global,
     files: &'e [IndexedFile<'e>],
 ) -> Result<Vec<Directory<'e>>, Memory>
-    requires fits { AreTotals (totals_together (map indexed_file_data files.now)) }
-    ensures { IfOk result (λ directories. map directory_data directories.items ≡ runs_of (map indexed_file_data files.now)) }
+    requires rises { Rises (map indexed_file_data files.now) }
+    requires fits { FitTotals (totals_together (map indexed_file_data files.now)) }
+    ensures { IfOk result (λ directories. map directory_data directories.items ≡ directories_of (map indexed_file_data files.now)) }
 {
     let mut directories = Vec::new(alloc);
     let mut rest = files;
@@ -110,8 +145,9 @@ fn count_in(directory: &[u8], files: &[IndexedFile<'_>]) -> usize
 
 /// What files have together.
 fn totals_of(files: &[IndexedFile<'_>]) -> Totals
-    requires { AreTotals (totals_together (map indexed_file_data files.now)) }
-    ensures { result ≡ totals_together (map indexed_file_data files.now) }
+    requires { FitTotals (totals_together (map indexed_file_data files.now)) }
+    ensures sum { result ≡ totals_together (map indexed_file_data files.now) }
+    ensures bounds { AreTotals result }
 {
     let mut totals = Totals::none();
     for file in files {

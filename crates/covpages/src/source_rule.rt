@@ -1,8 +1,8 @@
 //! Where source files lie.
 
-ghost use Rattle.std.specs.Prelude.{◌≡◌, ◌++◌, IfOk, map, option_map};
+ghost use Rattle.std.specs.Prelude.{◌≡◌, IfOk, map, option_map};
 ghost use Rattle.std.specs.String.{string_bytes};
-ghost use Rattle.covpages.specs.Sources.{located_by, located_in, rest_under, rule_of, rules_of};
+ghost use Rattle.covpages.specs.Sources.{ends_at_slash as ends_with_slash, is_apart as is_apart_rest, located_by, located_in, rest_under, rule_of, rules_of};
 
 use covdata::{Bytes, Memory};
 use std::alloc::Global;
@@ -31,8 +31,31 @@ impl<'a> SourceRule<'a> {
         ensures { option_map (λ rest. rest.now) result ≡ rest_under self.now.old.now path.now }
     {
         let rest = path.strip_prefix(self.old)?;
-        let is_whole = rest.is_empty() || rest.starts_with(b"/") || self.old.ends_with(b"/");
-        if is_whole { Some(rest) } else { None }
+        if is_apart(rest) || ends_at_slash(self.old) {
+            Some(rest)
+        } else {
+            None
+        }
+    }
+}
+
+/// Whether `rest` is nothing, or begins with a slash.
+fn is_apart(rest: &[u8]) -> bool
+    ensures { result ≡ is_apart_rest rest.now }
+{
+    match rest.split_first() {
+        Some((byte, _)) => *byte == b'/',
+        None => true,
+    }
+}
+
+/// Whether the last byte is a slash.
+fn ends_at_slash(old: &[u8]) -> bool
+    ensures { result ≡ ends_with_slash old.now }
+{
+    match old.split_last() {
+        Some((byte, _)) => *byte == b'/',
+        None => false,
     }
 }
 

@@ -1,8 +1,9 @@
 //! The texts of source files.
 
-ghost use Rattle.std.specs.Prelude.{◌≡◌, ◌++◌, IfOk, OnOk, map};
+ghost use Rattle.std.specs.Prelude.{◌≡◌, ◌++◌, length, IfOk, OnOk, map};
 ghost use Rattle.covhtml.specs.RowView.{row_data};
-ghost use Rattle.covpages.specs.Sources.{complaint_of, IsSource, has_lines as has_lines_of, last_line as last_line_of};
+ghost use Rattle.covline.specs.Lines.{lines_of};
+ghost use Rattle.covpages.specs.Sources.{complaint_of, IsSource, has_lines as has_lines_of, last_line as last_line_of, shown_text};
 ghost use Rattle.covpages.specs.View.{source_data};
 ghost use Rattle.covworld.specs.Folder.{folder_data};
 
@@ -28,7 +29,9 @@ pub(crate) enum Source {
 
 impl Source {
     /// The text that the page shows.
-    pub(crate) fn text(&self) -> &[u8] {
+    pub(crate) fn text(&self) -> &[u8]
+        ensures { result.now ≡ shown_text (source_data self.now) }
+    {
         match self {
             Source::Text(text) => text.get(),
             Source::Unreadable | Source::Short => b"",
@@ -61,15 +64,26 @@ pub(crate) fn read_source<F: Folder>(
 fn has_lines(text: &[u8], rows: &[Row<'_>]) -> bool
     ensures { result ≡ has_lines_of (map row_data rows.now) text.now }
 {
-    last_line(rows) <= lines(text).count() as u64
+    last_line(rows) <= count_lines(text)
+}
+
+/// The number of lines of the text.
+fn count_lines(text: &[u8]) -> u64
+    ensures { result ≡ length (lines_of text.now) }
+{
+    let mut count = 0;
+    for _line in lines(text) {
+        count += 1;
+    }
+    count
 }
 
 /// The number of the last row; 0 if there are no rows.
 fn last_line(rows: &[Row<'_>]) -> u64
     ensures { result ≡ last_line_of (map row_data rows.now) }
 {
-    match rows.last() {
-        Some(row) => row.number,
+    match rows.split_last() {
+        Some((row, _)) => row.number,
         None => 0,
     }
 }

@@ -1,10 +1,12 @@
 //! Writes the folder of pages.
 
 ghost use Rattle.std.specs.Prelude.{◌≡◌, ◌<◌, ◌^◌, ◌++◌, [], ◌∷◌, None, IfErr, IfOk, OnErr, OnOk, codes, map, option_map, unwrap_or};
-ghost use Rattle.covhtml.specs.PagesView.{directory_data};
+ghost use Rattle.covhtml.specs.PagesView.{directory_data, test_totals_data};
+ghost use Rattle.covhtml.specs.Points.{tests_of as tests_in};
+ghost use Rattle.covhtml.specs.PointsView.{points_data};
 ghost use Rattle.covhtml.specs.RowView.{row_data};
 ghost use Rattle.covpages.specs.Directories.{totals_together};
-ghost use Rattle.covpages.specs.Pages.{IsPagesFault, IsWritten, directory_files, directory_pages, files_shown, index_files, is_refused, linked_after};
+ghost use Rattle.covpages.specs.Pages.{IsPagesFault, IsWritten, directory_files, directory_pages, files_shown, index_files, is_refused, linked_after, points_at};
 ghost use Rattle.covpages.specs.Sources.{complaint_of, located_by, rules_of, IsSource};
 ghost use Rattle.covpages.specs.Steps.{AreAdded, AreFinished, IsNext, IsReport, IsSoFar};
 ghost use Rattle.covpages.specs.View.{entry_data, linked_data, page_text, progress_data, source_data, work_data};
@@ -24,8 +26,8 @@ use crate::source_text::{Source, put_complaint, read_source};
 use covcommand::{PageOptions, Strictness};
 use covdata::{Bytes, Memory};
 use covhtml::{
-    Directory, DirectoryIndex, IndexPage, PointsTable, Row, SourcePage, directory_page_name,
-    joined, page_name, rows_of, tests_of,
+    Directory, DirectoryIndex, IndexPage, Points, PointsTable, Row, SourcePage, TestTotals,
+    directory_page_name, joined, page_name, rows_of, tests_of,
 };
 use covreport::{Choice, chosen_totals};
 use covtable::FileTotals;
@@ -60,6 +62,13 @@ pub struct PagesWork<'w, F, T> {
 struct Progress<'s> {
     entries: Vec<Entry<'s>>,
     complaints: Bytes,
+}
+
+/// What the table has of a source file: its tests, and its points over all tests.
+#[derive(Drop)]
+struct FileParts<'s> {
+    tests: Vec<TestTotals<'s>>,
+    points: Points<'s, Global>,
 }
 
 impl<'s> Progress<'s> {
@@ -179,20 +188,18 @@ fn write_source<'s, F: Folder, T: PointsTable<Global>, D: OutputFolder>(
 {
     let number = progress.entries.len() as u64 + 1;
     let name = page_name(work.alloc, number, file.path)?;
-    let sections = work.table.sections_of(work.alloc, file.path)?;
-    let tests = tests_of(work.alloc, sections.as_slice())?;
-    let points = joined(work.alloc, sections)?;
+    let parts = parts_of(work, file.path)?;
     let rows = rows_of(
         work.alloc,
-        points.lines.as_slice(),
-        points.branches.as_slice(),
+        parts.points.lines.as_slice(),
+        parts.points.branches.as_slice(),
     )?;
     let source = source_for(work, file.path, rows.as_slice(), &mut progress.complaints)?;
     let page = SourcePage {
         path: file.path,
         totals: file.totals,
-        functions: points.functions.as_slice(),
-        tests: tests.as_slice(),
+        functions: parts.points.functions.as_slice(),
+        tests: parts.tests.as_slice(),
         rows: rows.as_slice(),
         source: source.text(),
     };
@@ -203,6 +210,20 @@ fn write_source<'s, F: Folder, T: PointsTable<Global>, D: OutputFolder>(
         totals: file.totals,
     })?;
     Ok(())
+}
+
+/// Adds up what the table has of the source file of this `path`.
+fn parts_of<'w, F, T: PointsTable<Global>>(
+    work: &PagesWork<'w, F, T>,
+    path: &[u8],
+) -> Result<FileParts<'w>, Memory>
+    ensures points { IfOk result (λ parts. points_data parts.points ≡ points_at (T.shown work.now.table.now).sections path.now) }
+    ensures tests { IfOk result (λ parts. map test_totals_data parts.tests.items ≡ tests_in (own_sections path.now (T.shown work.now.table.now).sections)) }
+{
+    let sections = work.table.sections_of(work.alloc, path)?;
+    let tests = tests_of(work.alloc, sections.as_slice())?;
+    let points = joined(work.alloc, sections)?;
+    Ok(FileParts { tests, points })
 }
 
 /// Writes a page into the file called `name`.
@@ -249,7 +270,7 @@ fn write_index<F, T: PointsTable<Global>, D: OutputFolder>(
 ) -> Result<(), PagesFault>
     requires free { D.begun report.old ≡ None }
     requires few { D.failed report.old < 2 ^ 62 }
-    requires bounds { AreTotals (totals_together (map entry_data entries.now)) }
+    requires totals { totals_together (map entry_data entries.now) ≡ totals_of_chosen (choice_data work.now.choice.now) (T.shown work.now.table.now).sections }
     ensures index { OnOk result (AreFinished (index_files work.now.options.now.title work.now.options.now.date
         (totals_of_chosen (choice_data work.now.choice.now) (T.shown work.now.table.now).sections) (map entry_data entries.now)) (D.finished report.old) (D.finished report.new)) }
     ensures named { OnOk result (AreAdded (index_files work.now.options.now.title work.now.options.now.date
@@ -257,15 +278,16 @@ fn write_index<F, T: PointsTable<Global>, D: OutputFolder>(
     ensures none { D.begun report.new ≡ None }
     ensures good { OnOk result (D.failed report.new ≡ D.failed report.old) }
 {
+    let totals = chosen_totals(work.table, work.choice);
     let files = indexed(work.alloc, entries)?;
     let directories = directories(work.alloc, files.as_slice())?;
-    if files.len() > MOST_LISTED {
-        return write_directories(work, files.len() as u64, directories.as_slice(), report);
+    if entries.len() > MOST_LISTED {
+        return write_directories(work, entries.len() as u64, directories.as_slice(), report);
     }
     let page = IndexPage {
         title: title_of(work.options),
         date: date_of(work.options),
-        totals: chosen_totals(work.table, work.choice),
+        totals,
         directories: directories.as_slice(),
     };
     write_text(work.alloc, "index.html", Page::Index(page), report)?;
@@ -281,6 +303,7 @@ fn write_directories<F, T: PointsTable<Global>, D: OutputFolder>(
 ) -> Result<(), PagesFault>
     requires free { D.begun report.old ≡ None }
     requires few { D.failed report.old < 2 ^ 62 }
+    requires number { number < 2 ^ 63 }
     ensures finished { OnOk result (AreFinished (directory_files work.now.options.now.title work.now.options.now.date
         (totals_of_chosen (choice_data work.now.choice.now) (T.shown work.now.table.now).sections) number (map directory_data directories.now)) (D.finished report.old) (D.finished report.new)) }
     ensures named { OnOk result (AreAdded (directory_files work.now.options.now.title work.now.options.now.date
@@ -309,6 +332,7 @@ fn write_directory_pages<'d, D: OutputFolder>(
 ) -> Result<Vec<Linked<'d>>, PagesFault>
     requires free { D.begun report.old ≡ None }
     requires few { D.failed report.old < 2 ^ 62 }
+    requires number { number < 2 ^ 63 }
     ensures linked { IfOk result (λ linked. map linked_data linked.items ≡ linked_after number (map directory_data directories.now)) }
     ensures finished { OnOk result (AreFinished (directory_pages number (map directory_data directories.now)) (D.finished report.old) (D.finished report.new)) }
     ensures named { OnOk result (AreAdded (directory_pages number (map directory_data directories.now)) (D.names report.old) (D.names report.new)) }

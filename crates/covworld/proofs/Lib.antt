@@ -1,2 +1,3 @@
 pub mod Folders
 pub mod PrintedSteps
+pub mod Paths

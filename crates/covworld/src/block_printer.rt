@@ -159,7 +159,7 @@ fn printed_at<'s, T: PrintedText, O: Sink, L: Place>(
     requires few { O.failed_writes output.old < 2 ^ 62 }
     requires empty { block ≡ [] }
     ensures same { result.sink.ghost_name ≡ output.entry.ghost_name }
-    ensures printed { HasPrinted (not result.has_failed) (T.text text.entry) (sink_data (O.written output.old) (O.failed_writes output.old)) (sink_data (O.written result.sink.now) (O.failed_writes result.sink.now)) }
+    ensures printed { HasPrinted (not result.has_failed) (T.text text) (sink_data (O.written output.old) (O.failed_writes output.old)) (sink_data (O.written result.sink.now) (O.failed_writes result.sink.now)) }
 {
     let mut printer: BlockPrinter<'s, O, L> = BlockPrinter {
         sink: output,
@@ -182,11 +182,11 @@ pub(crate) fn print_text<T: PrintedText, O: Sink>(
 ) -> Result<(), SessionFault>
     requires few { O.failed_writes output.old < 2 ^ 62 }
     requires empty { block ≡ [] }
-    ensures written { OnOk result (Appends (O.written output.old) (O.written output.new) (T.text text.entry)) }
+    ensures written { OnOk result (Appends (O.written output.old) (O.written output.new) (T.text text)) }
     ensures sent { OnOk result (O.held output.new ≡ 0) }
     ensures good { OnOk result (O.failed_writes output.new ≡ O.failed_writes output.old) }
     ensures failed { OnErr result (O.failed_writes output.new ≡ suc (O.failed_writes output.old)) }
-    ensures begun { OnErr result (HasBegun (O.written output.old) (O.written output.new) (T.text text.entry)) }
+    ensures begun { OnErr result (HasBegun (O.written output.old) (O.written output.new) (T.text text)) }
     ensures fault { IfErr result (λ fault. fault ≡ session_faults.Write) }
 {
     let Printout { sink, has_failed } = printed_at::<T, O, Brand>(text, block, output);

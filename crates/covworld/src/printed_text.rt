@@ -12,8 +12,8 @@ pub trait PrintedText: Drop {
 
     /// Prints the text. May stop if the printer wants no more pieces.
     fn print_to<P: Printer>(self, printer: &mut P)
-        ensures begun { (rest : List ℕ) × (P.text printer.new ++ rest ≡ P.text printer.old ++ text self.entry) }
-        ensures whole { P.is_open printer.new ≡ true → P.text printer.new ≡ P.text printer.old ++ text self.entry };
+        ensures begun { (rest : List ℕ) × (P.text printer.new ++ rest ≡ P.text printer.old ++ text self) }
+        ensures whole { P.is_open printer.new ≡ true → P.text printer.new ≡ P.text printer.old ++ text self };
 }
 
 impl<'s, T: Table<Global>> PrintedText for Printing<'s, Global, T> {

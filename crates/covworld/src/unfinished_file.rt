@@ -285,10 +285,13 @@ pub(crate) fn store_inside<F: io::Write + OpenFile + Drop>(
 fn is_path_in(folder: &str, name: &str, path: &str) -> bool
     ensures { IsTrue result → path.now ≡ path_in folder.now name.now }
 {
-    let Some(rest) = path.strip_prefix(folder) else {
+    let Some(rest) = path.as_bytes().strip_prefix(folder.as_bytes()) else {
         return false;
     };
-    rest.strip_prefix("/") == Some(name)
+    let Some((slash, last)) = rest.split_first() else {
+        return false;
+    };
+    *slash == b'/' && last == name.as_bytes()
 }
 
 /// Removes `file`, which isn't finished.

@@ -44,7 +44,7 @@ pub struct UnfinishedFolder<'a, R> {
     // The names of the files so far, one on each line.
     listing: Bytes,
     // The names of the older folder's files; `None` if there is no older folder, or an empty one.
-    old: Option<Vec<String>>,
+    older: Option<Vec<String>>,
     // The name of the file that is begun.
     begun: Option<String>,
     failed: u64,
@@ -81,6 +81,7 @@ impl<'a, R: Files + RandomSource + AllocGlobal> UnfinishedFolder<'a, R> {
     fn open(&mut self, name: &str) -> Result<UnfinishedFile<R::File>, OutputFault>
         ensures fresh { IfOk result (λ file. ⟦<UnfinishedFile<R::File> as Sink>⟧.failed_writes file ≡ 0) }
         ensures begun { OnOk result (option_map string_bytes self.new.begun ≡ Some name.now) }
+        ensures same { OnErr result (self.new.begun ≡ self.old.begun) }
         ensures failed { self.new.failed ≡ self.old.failed }
         ensures folder { self.new.folder ≡ self.old.folder }
     {
@@ -95,6 +96,7 @@ impl<'a, R: Files + RandomSource + AllocGlobal> UnfinishedFolder<'a, R> {
     fn store(&mut self, file: UnfinishedFile<R::File>, name: &str) -> Result<(), OutputFault>
         ensures files { OnOk result (self.new.folder.files.all ≡ self.old.folder.files.all ++ name.now ∷ []) }
         ensures same { OnErr result (self.new.folder ≡ self.old.folder) }
+        ensures target { self.new.target ≡ self.old.target }
         ensures begun { self.new.begun ≡ self.old.begun }
         ensures failed { self.new.failed ≡ self.old.failed }
     {
@@ -161,7 +163,7 @@ pub(crate) fn begin_folder<'a, R: Files + RandomSource + AllocGlobal>(
     ensures failed { IfOk result (λ folder. folder.failed ≡ 0) }
 {
     let target = target_of(rt, name)?;
-    let old = old_files(rt, target.path())?;
+    let older = old_files(rt, target.path())?;
     let from = name_beside(rt, target.path(), ".part")?;
     let folder = CreatedFolder::create(rt, from.as_str())?;
     if keep_rights(rt, from.as_str(), target.path()).is_err() {
@@ -174,7 +176,7 @@ pub(crate) fn begin_folder<'a, R: Files + RandomSource + AllocGlobal>(
         folder,
         target,
         listing: Bytes::new(rt.alloc()),
-        old,
+        older,
         begun: None,
         failed: 0,
     })
@@ -289,8 +291,8 @@ fn path_of_file<R: AllocGlobal>(rt: &R, folder: &str, name: &str) -> Result<Stri
 pub(crate) fn finish_folder<R: Files + RandomSource + AllocGlobal>(
     folder: UnfinishedFolder<'_, R>,
 ) -> Result<PlacedFolder, OutputFault>
-    ensures name { IfOk result (λ placed. placed.name ≡ folder.target.name) }
-    ensures files { IfOk result (λ placed. placed.files.all ≡ folder.folder.files.all ++ list_name ∷ []) }
+    ensures name { IfOk result (λ placed. placed.name ≡ folder.entry.target.name) }
+    ensures files { IfOk result (λ placed. placed.files.all ≡ folder.entry.folder.files.all ++ list_name ∷ []) }
 {
     let mut listed = folder;
     if let Err(fault) = write_list(&mut listed) {
@@ -302,10 +304,10 @@ pub(crate) fn finish_folder<R: Files + RandomSource + AllocGlobal>(
         from,
         folder,
         target,
-        old,
+        older,
         ..
     } = listed;
-    let placed = put_in_place(rt, from.as_str(), folder, target, &old);
+    let placed = put_in_place(rt, from.as_str(), folder, target, &older);
     if placed.is_err() {
         // The run already ends with the error.
         let _ = rt.remove_dir_all(rt.alloc(), from.as_str());
@@ -333,13 +335,13 @@ fn put_in_place<R: Files + RandomSource + AllocGlobal>(
     from: &str,
     folder: CreatedFolder,
     target: Target,
-    old: &Option<Vec<String>>,
+    older: &Option<Vec<String>>,
 ) -> Result<PlacedFolder, OutputFault>
     requires { folder.path.bytes ≡ from.now }
     ensures name { IfOk result (λ placed. placed.name ≡ target.name) }
     ensures files { IfOk result (λ placed. placed.files ≡ folder.files) }
 {
-    match old {
+    match older {
         // The system replaces an empty folder at once, and refuses to replace one that isn't empty.
         None => Ok(folder.rename(rt, from, target)?),
         Some(files) => replace(rt, from, folder, target, files.as_slice()),

@@ -40,7 +40,7 @@ pub fn write_text<P: OutputFolder, T: PrintedText>(
 ) -> Result<(), OutputFault>
     requires free { P.begun files.old ≡ None }
     requires few { P.failed files.old < 2 ^ 62 }
-    ensures finished { OnOk result (Finishes name.now (T.text text.entry) (P.finished files.old) (P.finished files.new)) }
+    ensures finished { OnOk result (Finishes name.now (T.text text) (P.finished files.old) (P.finished files.new)) }
     ensures named { OnOk result (AddsName name.now (P.names files.old) (P.names files.new)) }
     ensures none { P.begun files.new ≡ None }
     ensures good { OnOk result (P.failed files.new ≡ P.failed files.old) }
@@ -61,7 +61,7 @@ fn write_by<P: OutputFolder, T: PrintedText>(
     requires empty { block ≡ [] }
     requires free { P.begun files.old ≡ None }
     requires few { P.failed files.old < 2 ^ 62 }
-    ensures finished { OnOk result (Finishes name.now (T.text text.entry) (P.finished files.old) (P.finished files.new)) }
+    ensures finished { OnOk result (Finishes name.now (T.text text) (P.finished files.old) (P.finished files.new)) }
     ensures named { OnOk result (AddsName name.now (P.names files.old) (P.names files.new)) }
     ensures none { P.begun files.new ≡ None }
     ensures good { OnOk result (P.failed files.new ≡ P.failed files.old) }

@@ -1,0 +1,86 @@
+-- The folder of pages, from what was written of it.
+use Rattle.std.proofs.Common.{◌≡◌, ℕ, Bool, true, false, List, [], ◌∷◌, ◌++◌, map, Option, None, Some, refl, sym, ap, ◌∙◌, subst, codes}
+use Rattle.covhtml.specs.IndexPage.{IndexedFileData}
+use Rattle.covhtml.specs.declared.style_sheet.TheConstants.{STYLE}
+use Rattle.covlist.specs.Chosen.{totals_of_chosen}
+use Rattle.covpages.specs.Pages.{PagesWorkData, IsPagesFault, IsWritten, complaints_of, files_of, files_shown, index_files, indexed_after, is_refused, of_folder, of_output, pages_after}
+use Rattle.covpages.specs.Steps.{AreAdded, AreFinished, IsReport, IsSoFar, ProgressData}
+use Rattle.covpages.proofs.Progress.{added_on, finished_on, one_finished}
+use Rattle.covtable.specs.Content.{SectionData}
+use Rattle.covworld.specs.OutputFiles.{AddsFolder, AddsName, Finishes, FinishesFolder, IsEmptyIfKnown, OutputFilesData}
+use Rattle.covworld.specs.declared.folder_writer.FolderFault.{FolderFault}
+use Rattle.covworld.specs.declared.folder_writer.FolderFault.TheVariants as folder_faults
+use Rattle.covworld.specs.declared.output_folder.OutputFault.{OutputFault}
+use Rattle.covworld.specs.declared.output_folder.OutputFault.TheVariants as output_faults
+
+abbrev Files : Type 0
+Files = List (List ℕ × List ℕ)
+
+-- ---- all files of the folder
+
+module _ (work : PagesWorkData) (sections : List SectionData) (progress : ProgressData) (files one two three : OutputFilesData) where
+  abbrev style : List ℕ × List ℕ
+  style = (codes "style.css", STYLE.now)
+
+  abbrev index : List IndexedFileData → Files
+  index entries = index_files work.title work.date (totals_of_chosen work.choice sections) entries
+
+  pub report_made : Finishes (codes "style.css") STYLE.now files.finished one.finished → AddsName (codes "style.css") files.names one.names
+      → IsSoFar work sections (files_shown work sections) progress one two
+      → AreFinished (index progress.entries) two.finished three.finished → AreAdded (index progress.entries) two.names three.names
+      → is_refused work.strictness progress.complaints ≡ false → IsReport work sections files three progress.complaints
+  report_made styled style_named so_far indexed index_named taken =
+      let pages : Files = pages_after 0 sections (files_shown work sections) so_far.sources in
+      let last : Files = index (indexed_after 0 (files_shown work sections)) in
+      let front : AreFinished (style ∷ pages) files.finished two.finished =
+      finished_on (style ∷ []) pages files.finished one.finished two.finished (one_finished (codes "style.css") STYLE.now files.finished one.finished styled) so_far.finished in
+      let front_named : AreAdded (style ∷ pages) files.names two.names = added_on (style ∷ []) pages files.names one.names two.names style_named so_far.named in
+      record {
+        sources = so_far.sources;
+        are = so_far.are;
+        complaints = so_far.complaints;
+        taken = taken;
+        finished =
+            finished_on (style ∷ pages) last files.finished two.finished three.finished front
+            (subst (λ (es : List IndexedFileData). AreFinished (index es) two.finished three.finished) so_far.entries indexed);
+        named =
+            added_on (style ∷ pages) last files.names two.names three.names front_named
+            (subst (λ (es : List IndexedFileData). AreAdded (index es) two.names three.names) so_far.entries index_named);
+      }
+
+-- ---- the folder
+
+finishes_folder : (name : List ℕ) (written : Files) (finished empty full after : Option Files) → IsEmptyIfKnown finished empty → AreFinished written empty full
+    → FinishesFolder name full finished after → FinishesFolder name (Some written) finished after
+finishes_folder name written None empty full after none made done = tt
+finishes_folder name written (Some files) empty None after none made done =
+    absurd (subst (λ (e : Option Files). AreFinished written e None) none made)
+finishes_folder name written (Some files) empty (Some whole) after none made done =
+    let same : whole ≡ written = subst (λ (e : Option Files). AreFinished written e (Some whole)) none made in
+    subst (λ (w : Files). FinishesFolder name (Some w) (Some files) after) same done
+
+module _ (work : PagesWorkData) (sections : List SectionData) (files begun after : OutputFilesData) (empty full : OutputFilesData) (warnings : List ℕ) where
+  pub folder_written : IsReport work sections empty full warnings → IsEmptyIfKnown files.finished empty.finished → empty.names ≡ []
+      → begun.finished ≡ files.finished → begun.names ≡ files.names
+      → FinishesFolder work.folder full.finished begun.finished after.finished → AddsFolder work.folder full.names begun.names after.names
+      → after.begun ≡ files.begun → after.failed ≡ files.failed → IsWritten work sections files after warnings
+  folder_written report none no_names kept names_kept done named same good =
+      let made : Files = files_of work sections report.sources in
+      let names : full.names ≡ map (λ f. f.0) made = report.named ∙ ap (λ (l : List (List ℕ)). l ++ map (λ f. f.0) made) no_names in
+      (report.sources, report.are, report.complaints, report.taken,
+      (finishes_folder work.folder made files.finished empty.finished full.finished after.finished none report.finished
+      (subst (λ (f : Option Files). FinishesFolder work.folder full.finished f after.finished) kept done),
+      subst (λ (l : List (List ℕ)). AddsFolder work.folder l files.names after.names) names
+      (subst (λ (l : List (List ℕ)). AddsFolder work.folder full.names l after.names) names_kept named),
+      same, good))
+
+-- ---- what is told if nothing was written
+
+pub output_refused : (work : PagesWorkData) (sections : List SectionData) (fault : OutputFault) → IsPagesFault work sections (of_output fault)
+output_refused work sections output_faults.Failed = tt
+output_refused work sections output_faults.Memory = tt
+
+pub folder_refused : (work : PagesWorkData) (sections : List SectionData) (fault : FolderFault) → IsPagesFault work sections (of_folder fault)
+folder_refused work sections folder_faults.Foreign = tt
+folder_refused work sections folder_faults.Failed = tt
+folder_refused work sections folder_faults.Memory = tt
