@@ -1,5 +1,5 @@
 -- The runs of files in the same directory are the directories, if the files are sorted by them.
-use Rattle.std.proofs.Common.{◌≡◌, ℕ, suc, ◌-◌, ◌≤◌, Bool, true, false, cond, List, [], ◌∷◌, length, take, drop, map, filter, refl, sym, ap, ap₂, ◌∙◌, subst, inl, inr, arith}
+use Rattle.std.proofs.Common.{◌≡◌, ℕ, suc, ◌-◌, ◌<◌, ◌≤◌, Bool, true, false, cond, List, [], ◌∷◌, length, take, drop, map, filter, refl, sym, ap, ap₂, ◌∙◌, subst, inl, inr, arith}
 use Rattle.std.specs.Cmp.Lexicographic.{slice_cmp}
 use Rattle.std.specs.declared.cmp.Ordering.{Ordering}
 use Rattle.std.specs.declared.cmp.Ordering.TheVariants.{Less, Equal, Greater}
@@ -17,7 +17,7 @@ use Rattle.covtable.proofs.Ascend.{In-ascending, In-to_ascending, ascending_sort
 use Rattle.covtable.proofs.ContentsLists.{In-filter, In-unfilter}
 use Rattle.covtable.proofs.Members.{All-in, In, In-map, In-unmap}
 use Rattle.covtable.proofs.Orders.{names_order}
-use Rattle.covpages.specs.Directories.{HaveSameFiles, Rises, count_in, directories_of, directory_of, directory_paths, directory_with, files_of, onto_directories, runs_of, totals_together}
+use Rattle.covpages.specs.Directories.{HaveSameFiles, Rises, count_in, directories_of, directory_of, directory_paths, directory_with, files_of, first_path, onto_directories, run, runs_of, totals_together}
 
 abbrev pub dir : IndexedFileData → List ℕ
 dir file = directory_of file.path
@@ -155,10 +155,6 @@ same_directories fs gs same =
 
 -- ---- the first run
 
--- the directory of the first files, if they are in the same one
-abbrev pub run : (d : List ℕ) → List IndexedFileData → DirectoryData
-run d own = record { path = d; totals = totals_together own; files = own }
-
 -- the first run begins with the first file, in its directory
 starts : (f : IndexedFileData) (fs : List IndexedFileData) → (first : DirectoryData) × (more : List DirectoryData) × (runs_of (f ∷ fs) ≡ first ∷ more) × (first.path ≡ dir f)
 starts f fs = by (runs_of fs)
@@ -181,7 +177,7 @@ not_counted : (f : IndexedFileData) (fs : List IndexedFileData) (d : List ℕ) �
 not_counted f fs d differ = cond-false (bytes_eq (dir f) d) (suc (count_in d fs)) 0 (other_dir (dir f) d differ)
 
 -- the first run, and the runs after it, of which the first has so many files
-abbrev cut_at : (d : List ℕ) → List IndexedFileData → ℕ → List DirectoryData
+abbrev pub cut_at : (d : List ℕ) → List IndexedFileData → ℕ → List DirectoryData
 cut_at d fs n = run d (take n fs) ∷ runs_of (drop n fs)
 
 pub first_run : (f : IndexedFileData) (fs : List IndexedFileData) (d : List ℕ) → dir f ≡ d → runs_of (f ∷ fs) ≡ cut_at d (f ∷ fs) (count_in d (f ∷ fs))
@@ -207,3 +203,11 @@ first_run f (g ∷ gs) d e = by (bytes_eq (dir g) d) refl
         (ap (onto_directories f) first.2
         ∙ cond-false (bytes_eq (dir f) first.0.path) (joined ∷ first.1) (directory_with (f ∷ []) (dir f) ∷ first.0 ∷ first.1) (other_dir (dir f) first.0.path apart)
         ∙ ap₂ (λ (x : DirectoryData) (ds : List DirectoryData). x ∷ ds) (alone_is f ∙ ap (λ (p : List ℕ). run p (f ∷ [])) e) (sym first.2))
+
+pub first_cut : (fs : List IndexedFileData) → (fs ≡ [] → ⊥) → runs_of fs ≡ cut_at (first_path fs) fs (count_in (first_path fs) fs)
+first_cut [] some = absurd (some refl)
+first_cut (f ∷ fs) some = first_run f fs (dir f) refl
+
+pub some_counted : (fs : List IndexedFileData) → (fs ≡ [] → ⊥) → 0 < count_in (first_path fs) fs
+some_counted [] some = absurd (some refl)
+some_counted (f ∷ fs) some = omega (arith, counted f fs (dir f) refl)

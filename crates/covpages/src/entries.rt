@@ -1,43 +1,20 @@
 //! The source files that the index lists, by their directories.
 
-ghost use Rattle.std.specs.Prelude.{◌≡◌, ◌≤◌, length, IfOk, OnOk, map};
+ghost use Rattle.std.specs.Prelude.{◌≡◌, ◌≤◌, length, take, IfOk, OnOk, map};
 ghost use Rattle.std.specs.Cmp.Lexicographic.{slice_cmp};
 ghost use Rattle.std.specs.Ordering.{nat_cmp};
 ghost use Rattle.covhtml.specs.PagesView.{directory_data, indexed_directory_data, indexed_file_data};
-ghost use Rattle.covpages.specs.Directories.{HaveSameFiles, Rises, count_in as count_in_directory, directories_of, directory_of as directory_of_path, totals_together};
+ghost use Rattle.covpages.specs.Directories.{HaveSameFiles, Rises, count_in as count_in_directory, directories_of, directory_of as directory_of_path, first_path as first_path_of, run, totals_together};
 ghost use Rattle.covpages.specs.View.{entry_data, linked_data};
 ghost use Rattle.covtable.specs.Totals.{AreTotals};
 ghost use Rattle.covtable.specs.TotalsExchanged.{FitTotals};
 
-use covdata::{Bytes, Memory};
+use crate::listed::{Entry, Linked};
+use covdata::Memory;
 use covhtml::{Directory, IndexedDirectory, IndexedFile, name_of};
 use covtable::Totals;
 use std::alloc::Global;
 use std::cmp::Ordering;
-
-/// A source file that has a page.
-#[derive(Drop)]
-pub(crate) struct Entry<'s> {
-    /// The name of the page.
-    pub(crate) page: Bytes,
-    /// The source file's path.
-    pub(crate) path: &'s [u8],
-    /// The file's totals.
-    pub(crate) totals: Totals,
-    ghost are_totals: { AreTotals totals },
-}
-
-/// A directory that has a page.
-#[derive(Drop)]
-pub(crate) struct Linked<'s> {
-    /// The name of the page.
-    pub(crate) page: Bytes,
-    /// The directory's path.
-    pub(crate) path: &'s [u8],
-    /// The totals of the directory's files.
-    pub(crate) totals: Totals,
-    ghost are_totals: { AreTotals totals },
-}
 
 /// The directories of an index of directories.
 pub(crate) fn indexed_directories<'e>(
@@ -117,17 +94,36 @@ pub(crate) fn directories<'e>(
 {
     let mut directories = Vec::new(alloc);
     let mut rest = files;
-    while let Some(first) = rest.first() {
-        let path = directory_of(first.path);
-        let (own, others) = rest.split_at(count_in(path, rest));
-        directories.push(Directory {
-            path,
-            totals: totals_of(own),
-            files: own,
-        })?;
-        rest = others;
+    while !rest.is_empty() {
+        let count = count_in(first_path(rest), rest);
+        directories.push(first_directory(rest, count))?;
+        rest = &rest[count..];
     }
     Ok(directories)
+}
+
+/// The path of the directory of the first file. No path if there are no files.
+fn first_path<'e>(files: &[IndexedFile<'e>]) -> &'e [u8]
+    ensures { result.now ≡ first_path_of (map indexed_file_data files.now) }
+{
+    match files.first() {
+        Some(first) => directory_of(first.path),
+        None => b"",
+    }
+}
+
+/// The first `count` files, as the directory of the first one.
+fn first_directory<'e>(files: &'e [IndexedFile<'e>], count: usize) -> Directory<'e>
+    requires within { count ≤ length files.now }
+    requires fits { FitTotals (totals_together (take count (map indexed_file_data files.now))) }
+    ensures { directory_data result ≡ run (first_path_of (map indexed_file_data files.now)) (take count (map indexed_file_data files.now)) }
+{
+    let own = &files[..count];
+    Directory {
+        path: first_path(files),
+        totals: totals_of(own),
+        files: own,
+    }
 }
 
 /// How many files come before the first one that isn't in this directory.

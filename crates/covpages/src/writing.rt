@@ -18,8 +18,9 @@ ghost use Rattle.covtable.specs.ValuesView.{file_totals_data};
 ghost use Rattle.covworld.specs.Folder.{folder_data};
 ghost use Rattle.covworld.specs.OutputFiles.{AddsName, Finishes, output_files};
 
-use crate::entries::{Entry, Linked, directories, indexed, indexed_directories};
+use crate::entries::{directories, indexed, indexed_directories};
 use crate::fault::PagesFault;
+use crate::listed::{Entry, Linked};
 use crate::page::Page;
 use crate::source_rule::located;
 use crate::source_text::{Source, put_complaint, read_source};
