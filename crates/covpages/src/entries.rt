@@ -1,6 +1,6 @@
 //! The source files that the index lists, by their directories.
 
-ghost use Rattle.std.specs.Prelude.{◌≡◌, ◌≤◌, length, take, IfOk, OnOk, map};
+ghost use Rattle.std.specs.Prelude.{◌≡◌, ◌≤◌, length, drop, take, IfOk, OnOk, map};
 ghost use Rattle.std.specs.Cmp.Lexicographic.{slice_cmp};
 ghost use Rattle.std.specs.Ordering.{nat_cmp};
 ghost use Rattle.covhtml.specs.PagesView.{directory_data, indexed_directory_data, indexed_file_data};
@@ -97,9 +97,17 @@ pub(crate) fn directories<'e>(
     while !rest.is_empty() {
         let count = count_in(first_path(rest), rest);
         directories.push(first_directory(rest, count))?;
-        rest = &rest[count..];
+        rest = files_from(count, rest);
     }
     Ok(directories)
+}
+
+/// The files without the first `count` ones.
+fn files_from<'s, 'e>(count: usize, files: &'s [IndexedFile<'e>]) -> &'s [IndexedFile<'e>]
+    requires { count ≤ length files.now }
+    ensures { result.now ≡ drop count files.now }
+{
+    &files[count..]
 }
 
 /// The path of the directory of the first file. No path if there are no files.
@@ -157,9 +165,12 @@ fn directory_of(path: &[u8]) -> &[u8]
     ensures { result.now ≡ directory_of_path path.now }
 {
     let front = &path[..path.len() - name_of(path).len()];
-    match front.split_last() {
-        None => b".",
-        Some((_, directory)) if directory.is_empty() => b"/",
-        Some((_, directory)) => directory,
+    let Some((_, directory)) = front.split_last() else {
+        return b".";
+    };
+    if directory.is_empty() {
+        b"/"
+    } else {
+        directory
     }
 }
