@@ -1,12 +1,15 @@
 -- The folder of pages, from what was written of it.
-use Rattle.std.proofs.Common.{◌≡◌, ℕ, Bool, true, false, List, [], ◌∷◌, ◌++◌, map, Option, None, Some, refl, sym, ap, ◌∙◌, subst, codes}
+use Rattle.std.proofs.Common.{◌≡◌, ℕ, zero, suc, ◌<◌, Bool, true, false, List, [], ◌∷◌, ◌++◌, get_or, length, map, Option, None, Some, refl, sym, ap, ◌∙◌, subst, codes, arith}
 use Rattle.covhtml.specs.IndexPage.{IndexedFileData}
 use Rattle.covhtml.specs.declared.style_sheet.TheConstants.{STYLE}
 use Rattle.covlist.specs.Chosen.{totals_of_chosen}
+use Rattle.covlist.proofs.Files.{AreAllTotals, first_totals, other_totals}
 use Rattle.covpages.specs.Pages.{PagesWorkData, IsPagesFault, IsWritten, complaints_of, files_of, files_shown, index_files, indexed_after, is_refused, of_folder, of_output, pages_after}
 use Rattle.covpages.specs.Steps.{AreAdded, AreFinished, IsReport, IsSoFar, ProgressData}
 use Rattle.covpages.proofs.Progress.{added_on, finished_on, one_finished}
 use Rattle.covtable.specs.Content.{SectionData}
+use Rattle.covtable.specs.Files.{FileTotalsData}
+use Rattle.covtable.specs.Totals.{AreTotals}
 use Rattle.covworld.specs.OutputFiles.{AddsFolder, AddsName, Finishes, FinishesFolder, IsEmptyIfKnown, OutputFilesData}
 use Rattle.covworld.specs.declared.folder_writer.FolderFault.{FolderFault}
 use Rattle.covworld.specs.declared.folder_writer.FolderFault.TheVariants as folder_faults
@@ -84,3 +87,11 @@ pub folder_refused : (work : PagesWorkData) (sections : List SectionData) (fault
 folder_refused work sections folder_faults.Foreign = tt
 folder_refused work sections folder_faults.Failed = tt
 folder_refused work sections folder_faults.Memory = tt
+
+-- ---- the totals of the shown files
+
+-- of the file at this place, no more points are hit than found
+pub bounds_at : {X : Type 0} (seen : X → FileTotalsData) (xs : List X) → AreAllTotals (map seen xs) → (i : ℕ) → i < length xs → (x : X) → x ≡ get_or xs i x → AreTotals (seen x).totals
+bounds_at seen [] all i lt x is = absurd (omega (arith, lt))
+bounds_at {X} seen (y ∷ xs) all zero lt x is = subst (λ (z : X). AreTotals (seen z).totals) (sym is) (first_totals (seen y) (map seen (y ∷ xs)) (map seen xs) refl all)
+bounds_at seen (y ∷ xs) all (suc i) lt x is = bounds_at seen xs (other_totals (seen y) (map seen (y ∷ xs)) (map seen xs) refl all) i (omega arith) x is

@@ -23,6 +23,23 @@ pub none_seen : {X : Type 0} (seen : X → RowData) (rows : List X) → length r
 none_seen seen [] none = refl
 none_seen seen (x ∷ rows) none = absurd (omega (arith, none))
 
+module _ (rows : List RowData) (text : List ℕ) where
+  pub too_long : max_bytes < length text → Unreadable ≡ source_with rows text
+  too_long long =
+      let test : nat_le (length text) max_bytes ≡ false = grind (arith, nat_tests) in
+      sym (cond-false (nat_le (length text) max_bytes) (cond (has_lines rows text) (Text text) Short) Unreadable test)
+
+  fits : length text ≤ max_bytes → source_with rows text ≡ cond (has_lines rows text) (Text text) Short
+  fits few =
+      let test : nat_le (length text) max_bytes ≡ true = grind (arith, nat_tests) in
+      cond-true (nat_le (length text) max_bytes) (cond (has_lines rows text) (Text text) Short) Unreadable test
+
+  pub whole_text : length text ≤ max_bytes → has_lines rows text ≡ true → Text text ≡ source_with rows text
+  whole_text few has = sym (fits few ∙ cond-true (has_lines rows text) (Text text) Short has)
+
+  pub short_text : length text ≤ max_bytes → has_lines rows text ≡ false → Short ≡ source_with rows text
+  short_text few has = sym (fits few ∙ cond-false (has_lines rows text) (Text text) Short has)
+
 module _ (folder : FolderData) (name : List ℕ) (rows : List RowData) where
   pub not_text : (IsUtf8 name → ⊥) → IsSource folder name rows Unreadable
   not_text no = inl (refl, inr no)
@@ -30,19 +47,5 @@ module _ (folder : FolderData) (name : List ℕ) (rows : List RowData) where
   pub not_readable : folder.MayFail name → IsSource folder name rows Unreadable
   not_readable fails = inl (refl, inl fails)
 
-  module _ (text : List ℕ) (held : IsTextOf (folder.holds name) text) where
-    pub too_long : max_bytes < length text → IsSource folder name rows Unreadable
-    too_long long =
-        let test : nat_le (length text) max_bytes ≡ false = grind (arith, nat_tests) in
-        inr (text, held, sym (cond-false (nat_le (length text) max_bytes) (cond (has_lines rows text) (Text text) Short) Unreadable test))
-
-    fits : length text ≤ max_bytes → source_with rows text ≡ cond (has_lines rows text) (Text text) Short
-    fits few =
-        let test : nat_le (length text) max_bytes ≡ true = grind (arith, nat_tests) in
-        cond-true (nat_le (length text) max_bytes) (cond (has_lines rows text) (Text text) Short) Unreadable test
-
-    pub whole_text : length text ≤ max_bytes → has_lines rows text ≡ true → IsSource folder name rows (Text text)
-    whole_text few has = inr (text, held, sym (fits few ∙ cond-true (has_lines rows text) (Text text) Short has))
-
-    pub short_text : length text ≤ max_bytes → has_lines rows text ≡ false → IsSource folder name rows Short
-    short_text few has = inr (text, held, sym (fits few ∙ cond-false (has_lines rows text) (Text text) Short has))
+  pub read_so : (text : List ℕ) (source : SourceData) → IsTextOf (folder.holds name) text → source ≡ source_with rows text → IsSource folder name rows source
+  read_so text source held is = inr (text, held, is)

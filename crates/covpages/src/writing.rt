@@ -13,7 +13,7 @@ ghost use Rattle.covpages.specs.View.{entry_data, linked_data, page_text, progre
 ghost use Rattle.covlist.specs.Chosen.{totals_of_chosen};
 ghost use Rattle.covreport.specs.ChoiceView.{choice_data};
 ghost use Rattle.covtable.specs.Files.{files_with_totals};
-ghost use Rattle.covtable.specs.Totals.{AreTotals, own_sections, totals_of};
+ghost use Rattle.covtable.specs.Totals.{AreTotals, own_sections};
 ghost use Rattle.covtable.specs.ValuesView.{file_totals_data};
 ghost use Rattle.covworld.specs.Folder.{folder_data};
 ghost use Rattle.covworld.specs.OutputFiles.{AddsName, Finishes, output_files};
@@ -152,7 +152,7 @@ fn write_sources<'s, F: Folder, T: PointsTable<Global>, D: OutputFolder>(
     work: &PagesWork<'_, F, T>,
     files: &[FileTotals<'s>],
     report: &mut D,
-) -> Result<Progress<'s>, PagesFault>
+) -> Result<Progress<'s>, OutputFault>
     requires free { D.begun report.old ≡ None }
     requires few { D.failed report.old < 2 ^ 62 }
     requires files { map file_totals_data files.now ≡ files_with_totals (T.shown work.now.table.now).sections }
@@ -178,10 +178,9 @@ fn write_source<'s, F: Folder, T: PointsTable<Global>, D: OutputFolder>(
     file: FileTotals<'s>,
     progress: &mut Progress<'s>,
     report: &mut D,
-) -> Result<(), PagesFault>
+) -> Result<(), OutputFault>
     requires free { D.begun report.old ≡ None }
     requires few { D.failed report.old < 2 ^ 62 }
-    requires totals { file.totals ≡ totals_of (own_sections file.path.now (T.shown work.now.table.now).sections) }
     requires bounds { AreTotals file.totals }
     ensures next { OnOk result (IsNext (work_data (folder_data F.Folder F.File.Source work.now.sources.now) work.now) (T.shown work.now.table.now).sections (file_totals_data file) (progress_data progress.old) (progress_data progress.new) (output_files (D.finished report.old) (D.names report.old) (D.begun report.old) (D.failed report.old)) (output_files (D.finished report.new) (D.names report.new) (D.begun report.new) (D.failed report.new))) }
     ensures none { D.begun report.new ≡ None }
@@ -268,7 +267,7 @@ fn write_index<F, T: PointsTable<Global>, D: OutputFolder>(
     work: &PagesWork<'_, F, T>,
     entries: &[Entry<'_>],
     report: &mut D,
-) -> Result<(), PagesFault>
+) -> Result<(), OutputFault>
     requires free { D.begun report.old ≡ None }
     requires few { D.failed report.old < 2 ^ 62 }
     requires totals { totals_together (map entry_data entries.now) ≡ totals_of_chosen (choice_data work.now.choice.now) (T.shown work.now.table.now).sections }
@@ -301,7 +300,7 @@ fn write_directories<F, T: PointsTable<Global>, D: OutputFolder>(
     number: u64,
     directories: &[Directory<'_>],
     report: &mut D,
-) -> Result<(), PagesFault>
+) -> Result<(), OutputFault>
     requires free { D.begun report.old ≡ None }
     requires few { D.failed report.old < 2 ^ 62 }
     requires number { number < 2 ^ 63 }
@@ -330,7 +329,7 @@ fn write_directory_pages<'d, D: OutputFolder>(
     number: u64,
     directories: &[Directory<'d>],
     report: &mut D,
-) -> Result<Vec<Linked<'d>>, PagesFault>
+) -> Result<Vec<Linked<'d>>, OutputFault>
     requires free { D.begun report.old ≡ None }
     requires few { D.failed report.old < 2 ^ 62 }
     requires number { number < 2 ^ 63 }
