@@ -1,5 +1,5 @@
 -- The directory of a path, which comes before the slash before its name.
-use Rattle.std.proofs.Common.{◌≡◌, ℕ, suc, ◌-◌, ◌≤◌, Bool, true, false, ◌==◌, List, [], ◌∷◌, ◌++◌, length, take, refl, sym, ap, ◌∙◌, arith, codes}
+use Rattle.std.proofs.Common.{◌≡◌, ℕ, suc, ◌-◌, ◌≤◌, Bool, true, false, ◌==◌, List, [], ◌∷◌, ◌++◌, length, take, refl, sym, ap, ◌∙◌, arith}
 use Rattle.std.proofs.Math.Seq.{take-append_seam}
 use Rattle.std.proofs.lemmas.Bool.{cond-true, cond-false, false≢true}
 use Rattle.covhtml.specs.IndexPage.{begins_name, name_in, name_of}
@@ -26,13 +26,6 @@ length-more [] slash = refl
 length-more (d ∷ ds) slash = ap suc (length-more ds slash)
 
 module _ (path front : List ℕ) (is : front ≡ take (length path - length (name_of path)) path) where
-  pub no_front : front ≡ [] → codes "." ≡ directory_of path
-  no_front none = ap before_slash (sym none ∙ is)
-
-  pub slash_alone : (directory : List ℕ) (slash : ℕ) → front ≡ directory ++ slash ∷ [] → directory ≡ [] → codes "/" ≡ directory_of path
-  slash_alone directory slash ends none =
-      ap before_slash (sym (ends ∙ ap (λ (l : List ℕ). l ++ slash ∷ []) none) ∙ is)
-
   pub before_name : (directory : List ℕ) (slash : ℕ) → front ≡ directory ++ slash ∷ [] → (directory ≡ [] → ⊥) → directory ≡ directory_of path
   before_name [] slash ends some = absurd (some refl)
   before_name (d ∷ ds) slash ends some =
@@ -43,7 +36,3 @@ module _ (path front : List ℕ) (is : front ≡ take (length path - length (nam
 pub not_none : (xs : List ℕ) → (length xs == 0) ≡ false → xs ≡ [] → ⊥
 not_none [] some e = false≢true (sym some)
 not_none (x ∷ xs) some e = cc
-
-pub is_none : (xs : List ℕ) → (length xs == 0) ≡ true → xs ≡ []
-is_none [] none = refl
-is_none (x ∷ xs) none = absurd (false≢true none)

@@ -8,6 +8,7 @@ use Rattle.std.specs.Str.{bytes_eq}
 use Rattle.std.specs.List.{AllByRecursion}
 use Rattle.std.specs.List.Sorted.{IsStrictlySortedBy}
 use Rattle.std.proofs.lemmas.Bool.{cond-true, cond-false, false≢true}
+use Rattle.std.proofs.lemmas.Bool.Decides.{nat_tests}
 use Rattle.std.proofs.lemmas.Slice.Eq.{bytes_eq-Decides}
 use Rattle.covhtml.specs.IndexPage.{DirectoryData, IndexedFileData}
 use Rattle.covtable.specs.Ascending.{ascending, placed}
@@ -236,4 +237,6 @@ module _ (done : List DirectoryData) (whole : List DirectoryData) (fs : List Ind
 
 pub none_seen : {X : Type 0} (seen : X → IndexedFileData) (xs : List X) → (length xs == 0) ≡ true → map seen xs ≡ []
 none_seen seen [] none = refl
-none_seen seen (x ∷ xs) none = absurd (false≢true none)
+none_seen seen (x ∷ xs) none =
+    let some : (length (x ∷ xs) == 0) ≡ false = grind (arith, nat_tests) in
+    absurd (false≢true (sym some ∙ none))

@@ -1,5 +1,5 @@
 use Rattle.std.proofs.Common.{ℕ, ◌-◌, List, length, take, sym, ap, ◌∙◌, arith}
-use Rattle.covpages.proofs.DirectoryNames.{before_name, is_none, name_short, no_front, not_none, slash_alone}
+use Rattle.covpages.proofs.DirectoryNames.{before_name, name_short, not_none}
 use Rattle.covpages.proofs.entries.directory_of.Goals as goal
 
 pub slice_bounds-front-count : goal.slice_bounds-front-count
