@@ -42,7 +42,7 @@ module _ (rows : List RowData) (text : List ℕ) where
 
 module _ (folder : FolderData) (name : List ℕ) (rows : List RowData) where
   pub not_text : (IsUtf8 name → ⊥) → IsSource folder name rows Unreadable
-  not_text no = inl (refl, inr no)
+  not_text bad = inl (refl, inr bad)
 
   pub not_readable : folder.MayFail name → IsSource folder name rows Unreadable
   not_readable fails = inl (refl, inl fails)

@@ -35,9 +35,9 @@ pub(crate) fn indexed_directories<'e>(
 }
 
 /// The files of the index, by their directories, ascending. The files of a directory keep their order.
-pub(crate) fn indexed<'e>(
+pub(crate) fn indexed<'e, 's: 'e>(
     alloc: Global,
-    entries: &'e [Entry<'e>],
+    entries: &'e [Entry<'s>],
 ) -> Result<Vec<IndexedFile<'e>>, Memory>
     ensures rises { IfOk result (λ files. Rises (map indexed_file_data files.items)) }
     ensures same { IfOk result (λ files. HaveSameFiles (map indexed_file_data files.items) (map entry_data entries.now)) }
@@ -49,9 +49,9 @@ pub(crate) fn indexed<'e>(
 }
 
 /// The files of these entries, in their order.
-fn files_of<'e>(
+fn files_of<'e, 's: 'e>(
     alloc: Global,
-    entries: &'e [Entry<'e>],
+    entries: &'e [Entry<'s>],
 ) -> Result<Vec<IndexedFile<'e>>, Memory>
     ensures { IfOk result (λ files. map indexed_file_data files.items ≡ map entry_data entries.now) }
 {

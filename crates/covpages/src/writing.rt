@@ -75,7 +75,7 @@ struct FileParts<'s> {
 impl<'s> Progress<'s> {
     /// Notes a source file that has a page.
     fn note(&mut self, entry: Entry<'s>) -> Result<(), Memory>
-        ensures entries { OnOk result (map entry_data self.new.entries.items ≡ map entry_data self.old.entries.items ++ entry_data entry ∷ []) }
+        ensures entries { OnOk result (map entry_data self.new.entries.items ≡ map entry_data self.old.entries.items ++ entry_data entry.entry ∷ []) }
         ensures complaints { self.new.complaints ≡ self.old.complaints }
     {
         self.entries.push(entry)?;
@@ -182,7 +182,7 @@ fn write_source<'s, F: Folder, T: PointsTable<Global>, D: OutputFolder>(
     requires free { D.begun report.old ≡ None }
     requires few { D.failed report.old < 2 ^ 62 }
     requires bounds { AreTotals file.totals }
-    ensures next { OnOk result (IsNext (work_data (folder_data F.Folder F.File.Source work.now.sources.now) work.now) (T.shown work.now.table.now).sections (file_totals_data file) (progress_data progress.old) (progress_data progress.new) (output_files (D.finished report.old) (D.names report.old) (D.begun report.old) (D.failed report.old)) (output_files (D.finished report.new) (D.names report.new) (D.begun report.new) (D.failed report.new))) }
+    ensures next { OnOk result (IsNext (work_data (folder_data F.Folder F.File.Source work.now.sources.now) work.now) (T.shown work.now.table.now).sections (file_totals_data file.entry) (progress_data progress.old) (progress_data progress.new) (output_files (D.finished report.old) (D.names report.old) (D.begun report.old) (D.failed report.old)) (output_files (D.finished report.new) (D.names report.new) (D.begun report.new) (D.failed report.new))) }
     ensures none { D.begun report.new ≡ None }
     ensures good { OnOk result (D.failed report.new ≡ D.failed report.old) }
 {
@@ -235,7 +235,7 @@ fn write_page<D: OutputFolder>(
 ) -> Result<(), OutputFault>
     requires free { D.begun report.old ≡ None }
     requires few { D.failed report.old < 2 ^ 62 }
-    ensures finished { OnOk result (Finishes name.now (page_text page) (D.finished report.old) (D.finished report.new)) }
+    ensures finished { OnOk result (Finishes name.now (page_text page.entry) (D.finished report.old) (D.finished report.new)) }
     ensures named { OnOk result (AddsName name.now (D.names report.old) (D.names report.new)) }
     ensures none { D.begun report.new ≡ None }
     ensures good { OnOk result (D.failed report.new ≡ D.failed report.old) }
@@ -355,7 +355,7 @@ fn write_directory_pages<'d, D: OutputFolder>(
 
 /// Appends a directory that has a page.
 fn push_linked<'d>(linked: &mut Vec<Linked<'d>>, last: Linked<'d>) -> Result<(), Memory>
-    ensures { OnOk result (map linked_data linked.new.items ≡ map linked_data linked.old.items ++ linked_data last ∷ []) }
+    ensures { OnOk result (map linked_data linked.new.items ≡ map linked_data linked.old.items ++ linked_data last.entry ∷ []) }
 {
     linked.push(last)?;
     Ok(())
