@@ -1,12 +1,20 @@
 -- The folder of pages, from what was written of it.
-use Rattle.std.proofs.Common.{◌≡◌, ℕ, Bool, true, false, List, [], ◌∷◌, ◌++◌, map, Option, None, Some, refl, sym, ap, ◌∙◌, subst, codes}
-use Rattle.covhtml.specs.IndexPage.{IndexedFileData}
+use Rattle.std.proofs.Common.{◌≡◌, ℕ, zero, suc, ◌<◌, ◌≤◌, Bool, true, false, nat_le, List, [], ◌∷◌, ◌++◌, get_or, length, map, Option, None, Some, refl, sym, ap, ◌∙◌, subst, codes, unwrap_or, arith}
+use Rattle.std.proofs.lemmas.Bool.{cond-true, cond-false}
+use Rattle.std.proofs.lemmas.Bool.Decides.{nat_tests}
+use Rattle.covhtml.specs.DirectoryPages.{DirectoryIndexData, IndexedDirectoryData, directory_index}
+use Rattle.covhtml.specs.IndexPage.{DirectoryData, IndexPageData, IndexedFileData, index_page}
 use Rattle.covhtml.specs.declared.style_sheet.TheConstants.{STYLE}
 use Rattle.covlist.specs.Chosen.{totals_of_chosen}
-use Rattle.covpages.specs.Pages.{PagesWorkData, IsPagesFault, IsWritten, complaints_of, files_of, files_shown, index_files, indexed_after, is_refused, of_folder, of_output, pages_after}
+use Rattle.covlist.proofs.Files.{AreAllTotals, first_totals, other_totals}
+use Rattle.covpages.specs.Directories.{directories_of}
+use Rattle.covpages.specs.Pages.{PagesWorkData, IsPagesFault, IsWritten, complaints_of, directory_files, directory_index_with, files_of, files_shown, index_files, index_with, indexed_after, is_refused, most_listed, of_folder, of_output, pages_after}
 use Rattle.covpages.specs.Steps.{AreAdded, AreFinished, IsReport, IsSoFar, ProgressData}
 use Rattle.covpages.proofs.Progress.{added_on, finished_on, one_finished}
 use Rattle.covtable.specs.Content.{SectionData}
+use Rattle.covtable.specs.Files.{FileTotalsData}
+use Rattle.covtable.specs.Totals.{AreTotals}
+use Rattle.covtable.specs.declared.totals.Totals.{Totals}
 use Rattle.covworld.specs.OutputFiles.{AddsFolder, AddsName, Finishes, FinishesFolder, IsEmptyIfKnown, OutputFilesData}
 use Rattle.covworld.specs.declared.folder_writer.FolderFault.{FolderFault}
 use Rattle.covworld.specs.declared.folder_writer.FolderFault.TheVariants as folder_faults
@@ -84,3 +92,36 @@ pub folder_refused : (work : PagesWorkData) (sections : List SectionData) (fault
 folder_refused work sections folder_faults.Foreign = tt
 folder_refused work sections folder_faults.Failed = tt
 folder_refused work sections folder_faults.Memory = tt
+
+-- ---- the totals of the shown files
+
+-- of the file at this place, no more points are hit than found
+pub bounds_at : {X : Type 0} (seen : X → FileTotalsData) (xs : List X) → AreAllTotals (map seen xs) → (i : ℕ) → i < length xs → (x : X) → x ≡ get_or xs i x → AreTotals (seen x).totals
+bounds_at seen [] all i lt x is = absurd (omega (arith, lt))
+bounds_at {X} seen (y ∷ xs) all zero lt x is = subst (λ (z : X). AreTotals (seen z).totals) (sym is) (first_totals (seen y) (map seen (y ∷ xs)) (map seen xs) refl all)
+bounds_at seen (y ∷ xs) all (suc i) lt x is = bounds_at seen xs (other_totals (seen y) (map seen (y ∷ xs)) (map seen xs) refl all) i (omega arith) x is
+
+-- ---- the index
+
+pub directory_index_is : (title date : Option (List ℕ)) (totals : Totals) (directories : List IndexedDirectoryData) (t : List ℕ) (d : Option (List ℕ)) (s : Totals) (ds : List IndexedDirectoryData)
+    → t ≡ unwrap_or title (codes "Coverage") → d ≡ date → s ≡ totals → ds ≡ directories
+    → directory_index (let made : DirectoryIndexData = record { title = t; date = d; totals = s; directories = ds } in made) ≡ directory_index_with title date totals directories
+directory_index_is title date totals directories t d s ds e f g h = rw (e, f, g, h) refl
+
+pub index_is : (title date : Option (List ℕ)) (totals : Totals) (files : List IndexedFileData) (t : List ℕ) (d : Option (List ℕ)) (s : Totals) (ds : List DirectoryData)
+    → t ≡ unwrap_or title (codes "Coverage") → d ≡ date → s ≡ totals → ds ≡ directories_of files
+    → index_page (let made : IndexPageData = record { title = t; date = d; totals = s; directories = ds } in made) ≡ index_with title date totals files
+index_is title date totals files t d s ds e f g h = rw (e, f, g, h) refl
+
+module _ (title date : Option (List ℕ)) (totals : Totals) (files : List IndexedFileData) where
+  -- few files: one page has all of them
+  pub few_listed : length files ≤ 500 → (codes "index.html", index_with title date totals files) ∷ [] ≡ index_files title date totals files
+  few_listed few =
+      let test : nat_le (length files) most_listed ≡ true = grind (arith, nat_tests) in
+      sym (cond-true (nat_le (length files) most_listed) ((codes "index.html", index_with title date totals files) ∷ []) (directory_files title date totals (length files) (directories_of files)) test)
+
+  -- many files: each directory has a page
+  pub many_listed : 500 < length files → directory_files title date totals (length files) (directories_of files) ≡ index_files title date totals files
+  many_listed many =
+      let test : nat_le (length files) most_listed ≡ false = grind (arith, nat_tests) in
+      sym (cond-false (nat_le (length files) most_listed) ((codes "index.html", index_with title date totals files) ∷ []) (directory_files title date totals (length files) (directories_of files)) test)

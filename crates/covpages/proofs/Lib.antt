@@ -6,3 +6,4 @@ pub mod Places
 pub mod DirectoryNames
 pub mod Folders
 pub mod SourcePages
+pub mod SourceTexts

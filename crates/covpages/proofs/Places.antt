@@ -52,13 +52,13 @@ stripped (a ∷ old) (b ∷ path) h =
 not_stripped : (old path : List ℕ) → pointwise eqb (take (length old) path) old ≡ false → rest_after old path ≡ None
 not_stripped [] path h = absurd (false≢true (sym h))
 not_stripped (a ∷ old) [] h = refl
-not_stripped (a ∷ old) (b ∷ path) h = by (eqb b a) refl
+not_stripped (a ∷ old) (b ∷ path) h = by (eqb b a) refl (λ more. not_stripped old path more)
   where
-    by : (r : Bool) → eqb b a ≡ r → rest_after (a ∷ old) (b ∷ path) ≡ None
-    by true is =
+    by : (r : Bool) → eqb b a ≡ r → (pointwise eqb (take (length old) path) old ≡ false → rest_after old path ≡ None) → rest_after (a ∷ old) (b ∷ path) ≡ None
+    by true is more =
         cond-true (eqb a b) (rest_after old path) None (eqb_back a b true is)
-        ∙ not_stripped old path (sym (ap (λ (r : Bool). r && pointwise eqb (take (length old) path) old) is) ∙ h)
-    by false is = cond-false (eqb a b) (rest_after old path) None (eqb_back a b false is)
+        ∙ more (sym (ap (λ (r : Bool). r && pointwise eqb (take (length old) path) old) is) ∙ h)
+    by false is more = cond-false (eqb a b) (rest_after old path) None (eqb_back a b false is)
 
 pub no_rest : (old path : List ℕ) → pointwise eqb (take (length old) path) old ≡ false → None ≡ rest_under old path
 no_rest old path h = sym (ap (rest_if_apart old) (not_stripped old path h))

@@ -1,5 +1,5 @@
 -- The runs of files in the same directory are the directories, if the files are sorted by them.
-use Rattle.std.proofs.Common.{◌≡◌, ℕ, suc, ◌-◌, ◌≤◌, Bool, true, false, cond, List, [], ◌∷◌, length, take, drop, map, filter, refl, sym, ap, ap₂, ◌∙◌, subst, inl, inr, arith}
+use Rattle.std.proofs.Common.{◌≡◌, ℕ, suc, ◌-◌, ◌<◌, ◌≤◌, Bool, true, false, cond, ◌==◌, List, [], ◌∷◌, ◌++◌, append_assoc, append-nil, length, take, drop, map, filter, refl, sym, ap, ap₂, ◌∙◌, subst, inl, inr, arith}
 use Rattle.std.specs.Cmp.Lexicographic.{slice_cmp}
 use Rattle.std.specs.declared.cmp.Ordering.{Ordering}
 use Rattle.std.specs.declared.cmp.Ordering.TheVariants.{Less, Equal, Greater}
@@ -8,6 +8,7 @@ use Rattle.std.specs.Str.{bytes_eq}
 use Rattle.std.specs.List.{AllByRecursion}
 use Rattle.std.specs.List.Sorted.{IsStrictlySortedBy}
 use Rattle.std.proofs.lemmas.Bool.{cond-true, cond-false, false≢true}
+use Rattle.std.proofs.lemmas.Bool.Decides.{nat_tests}
 use Rattle.std.proofs.lemmas.Slice.Eq.{bytes_eq-Decides}
 use Rattle.covhtml.specs.IndexPage.{DirectoryData, IndexedFileData}
 use Rattle.covtable.specs.Ascending.{ascending, placed}
@@ -17,7 +18,7 @@ use Rattle.covtable.proofs.Ascend.{In-ascending, In-to_ascending, ascending_sort
 use Rattle.covtable.proofs.ContentsLists.{In-filter, In-unfilter}
 use Rattle.covtable.proofs.Members.{All-in, In, In-map, In-unmap}
 use Rattle.covtable.proofs.Orders.{names_order}
-use Rattle.covpages.specs.Directories.{HaveSameFiles, Rises, count_in, directories_of, directory_of, directory_paths, directory_with, files_of, onto_directories, runs_of, totals_together}
+use Rattle.covpages.specs.Directories.{HaveSameFiles, Rises, count_in, directories_of, directory_of, directory_paths, directory_with, files_of, first_path, onto_directories, run, runs_of, totals_together}
 
 abbrev pub dir : IndexedFileData → List ℕ
 dir file = directory_of file.path
@@ -155,10 +156,6 @@ same_directories fs gs same =
 
 -- ---- the first run
 
--- the directory of the first files, if they are in the same one
-abbrev pub run : (d : List ℕ) → List IndexedFileData → DirectoryData
-run d own = record { path = d; totals = totals_together own; files = own }
-
 -- the first run begins with the first file, in its directory
 starts : (f : IndexedFileData) (fs : List IndexedFileData) → (first : DirectoryData) × (more : List DirectoryData) × (runs_of (f ∷ fs) ≡ first ∷ more) × (first.path ≡ dir f)
 starts f fs = by (runs_of fs)
@@ -181,24 +178,24 @@ not_counted : (f : IndexedFileData) (fs : List IndexedFileData) (d : List ℕ) �
 not_counted f fs d differ = cond-false (bytes_eq (dir f) d) (suc (count_in d fs)) 0 (other_dir (dir f) d differ)
 
 -- the first run, and the runs after it, of which the first has so many files
-abbrev cut_at : (d : List ℕ) → List IndexedFileData → ℕ → List DirectoryData
+abbrev pub cut_at : (d : List ℕ) → List IndexedFileData → ℕ → List DirectoryData
 cut_at d fs n = run d (take n fs) ∷ runs_of (drop n fs)
 
 pub first_run : (f : IndexedFileData) (fs : List IndexedFileData) (d : List ℕ) → dir f ≡ d → runs_of (f ∷ fs) ≡ cut_at d (f ∷ fs) (count_in d (f ∷ fs))
 first_run f [] d e =
     ap (λ (x : DirectoryData). x ∷ []) (alone_is f ∙ ap (λ (p : List ℕ). run p (f ∷ [])) e) ∙ sym (ap (cut_at d (f ∷ [])) (counted f [] d e))
-first_run f (g ∷ gs) d e = by (bytes_eq (dir g) d) refl
+first_run f (g ∷ gs) d e = by (bytes_eq (dir g) d) refl (λ same. first_run g gs d same)
   where
     longer : (n : ℕ) → count_in d (g ∷ gs) ≡ n → onto_directories f (runs_of (g ∷ gs)) ≡ cut_at d (f ∷ g ∷ gs) (suc n) → runs_of (f ∷ g ∷ gs) ≡ cut_at d (f ∷ g ∷ gs) (count_in d (f ∷ g ∷ gs))
     longer n is made = made ∙ sym (ap (cut_at d (f ∷ g ∷ gs)) (counted f (g ∷ gs) d e ∙ ap suc is))
 
-    by : (b : Bool) → bytes_eq (dir g) d ≡ b → runs_of (f ∷ g ∷ gs) ≡ cut_at d (f ∷ g ∷ gs) (count_in d (f ∷ g ∷ gs))
-    by true is =
+    by : (b : Bool) → bytes_eq (dir g) d ≡ b → (dir g ≡ d → runs_of (g ∷ gs) ≡ cut_at d (g ∷ gs) (count_in d (g ∷ gs))) → runs_of (f ∷ g ∷ gs) ≡ cut_at d (f ∷ g ∷ gs) (count_in d (f ∷ g ∷ gs))
+    by true is more =
         let n = count_in d (g ∷ gs) in
         longer n refl
-        (ap (onto_directories f) (first_run g gs d ((bytes_eq-Decides (dir g) d).0 is))
+        (ap (onto_directories f) (more ((bytes_eq-Decides (dir g) d).0 is))
         ∙ cond-true (bytes_eq (dir f) d) (cut_at d (f ∷ g ∷ gs) (suc n)) (directory_with (f ∷ []) (dir f) ∷ cut_at d (g ∷ gs) n) (same_dir (dir f) d e))
-    by false is =
+    by false is more =
         let first = starts g gs in
         let differ : dir g ≡ d → ⊥ = λ same. false≢true (sym is ∙ same_dir (dir g) d same) in
         let apart : dir f ≡ first.0.path → ⊥ = λ same. differ (sym first.3 ∙ sym same ∙ e) in
@@ -207,3 +204,39 @@ first_run f (g ∷ gs) d e = by (bytes_eq (dir g) d) refl
         (ap (onto_directories f) first.2
         ∙ cond-false (bytes_eq (dir f) first.0.path) (joined ∷ first.1) (directory_with (f ∷ []) (dir f) ∷ first.0 ∷ first.1) (other_dir (dir f) first.0.path apart)
         ∙ ap₂ (λ (x : DirectoryData) (ds : List DirectoryData). x ∷ ds) (alone_is f ∙ ap (λ (p : List ℕ). run p (f ∷ [])) e) (sym first.2))
+
+pub some_seen : {X : Type 0} (seen : X → IndexedFileData) (xs : List X) → (length xs == 0) ≡ false → map seen xs ≡ [] → ⊥
+some_seen seen [] some e = false≢true (sym some)
+some_seen seen (x ∷ xs) some e = cc
+
+pub run_is : (path own : List ℕ) → (totals : Totals) (files taken : List IndexedFileData) → path ≡ own → totals ≡ totals_together files → files ≡ taken
+    → (let made : DirectoryData = record { path = path; totals = totals; files = files } in made) ≡ run own taken
+run_is path own totals files taken named added same =
+    ap₂ (λ (p : List ℕ) (t : Totals). let made : DirectoryData = record { path = p; totals = t; files = files } in made) named added ∙ ap (run own) same
+
+pub first_cut : (fs : List IndexedFileData) → (fs ≡ [] → ⊥) → runs_of fs ≡ cut_at (first_path fs) fs (count_in (first_path fs) fs)
+first_cut [] some = absurd (some refl)
+first_cut (f ∷ fs) some = first_run f fs (dir f) refl
+
+pub some_counted : (fs : List IndexedFileData) → (fs ≡ [] → ⊥) → 0 < count_in (first_path fs) fs
+some_counted [] some = absurd (some refl)
+some_counted (f ∷ fs) some = omega (arith, counted f fs (dir f) refl)
+
+module _ (done : List DirectoryData) (whole : List DirectoryData) (fs : List IndexedFileData) (so_far : done ++ runs_of fs ≡ whole) where
+  pub next_directory : (n : ℕ) (d : DirectoryData) → (fs ≡ [] → ⊥) → n ≡ count_in (first_path fs) fs → d ≡ run (first_path fs) (take n fs)
+      → (done ++ d ∷ []) ++ runs_of (drop n fs) ≡ whole
+  next_directory n d some counts is =
+      append_assoc done (d ∷ []) (runs_of (drop n fs))
+      ∙ ap (λ (x : DirectoryData). done ++ x ∷ runs_of (drop n fs)) is
+      ∙ ap (λ (k : ℕ). done ++ cut_at (first_path fs) fs k) counts
+      ∙ ap (λ (ds : List DirectoryData). done ++ ds) (sym (first_cut fs some))
+      ∙ so_far
+
+  pub last_directory : fs ≡ [] → done ≡ whole
+  last_directory none = sym (append-nil done) ∙ ap (λ (l : List IndexedFileData). done ++ runs_of l) (sym none) ∙ so_far
+
+pub none_seen : {X : Type 0} (seen : X → IndexedFileData) (xs : List X) → (length xs == 0) ≡ true → map seen xs ≡ []
+none_seen seen [] none = refl
+none_seen seen (x ∷ xs) none =
+    let some : (length (x ∷ xs) == 0) ≡ false = grind (arith, nat_tests) in
+    absurd (false≢true (sym some ∙ none))

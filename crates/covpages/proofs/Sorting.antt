@@ -60,16 +60,16 @@ module _ {X : Type 0} (seen : X → IndexedFileData) where
 
   files_seen : (d : List ℕ) (xs : List X) → files_of (map seen xs) d ≡ map seen (filter (is_in d) xs)
   files_seen d [] = refl
-  files_seen d (x ∷ xs) = by (is_in d x) refl
+  files_seen d (x ∷ xs) = by (is_in d x) refl (files_seen d xs)
     where
-      by : (b : Bool) → is_in d x ≡ b → files_of (map seen (x ∷ xs)) d ≡ map seen (filter (is_in d) (x ∷ xs))
-      by true is =
+      by : (b : Bool) → is_in d x ≡ b → files_of (map seen xs) d ≡ map seen (filter (is_in d) xs) → files_of (map seen (x ∷ xs)) d ≡ map seen (filter (is_in d) (x ∷ xs))
+      by true is rest =
           cond-true (is_in d x) (seen x ∷ files_of (map seen xs) d) (files_of (map seen xs) d) is
-          ∙ ap (λ (l : List IndexedFileData). seen x ∷ l) (files_seen d xs)
+          ∙ ap (λ (l : List IndexedFileData). seen x ∷ l) rest
           ∙ sym (ap (map seen) (cond-true (is_in d x) (x ∷ filter (is_in d) xs) (filter (is_in d) xs) is))
-      by false is =
+      by false is rest =
           cond-false (is_in d x) (seen x ∷ files_of (map seen xs) d) (files_of (map seen xs) d) is
-          ∙ files_seen d xs
+          ∙ rest
           ∙ sym (ap (map seen) (cond-false (is_in d x) (x ∷ filter (is_in d) xs) (filter (is_in d) xs) is))
 
   abbrev lower : X → X → Bool
@@ -110,10 +110,10 @@ module _ {X : Type 0} (seen : X → IndexedFileData) where
     same_in : filter (is_in d) ys ≡ filter (is_in d) xs
     same_in = by (filter (is_in d) ys) (filter (is_in d) xs) refl refl
       where
-        by : (as bs : List X) → filter (is_in d) ys ≡ as → filter (is_in d) xs ≡ bs → filter (is_in d) ys ≡ filter (is_in d) xs
+        by : (us vs : List X) → filter (is_in d) ys ≡ us → filter (is_in d) xs ≡ vs → filter (is_in d) ys ≡ filter (is_in d) xs
         by [] [] one other = one ∙ sym other
-        by (a ∷ as) bs one other = one_of a (first_of a as ys one)
-        by [] (b ∷ bs) one other = one_of b (first_of b bs xs other)
+        by (u ∷ us) vs one other = one_of u (first_of u us ys one)
+        by [] (v ∷ vs) one other = one_of v (first_of v vs xs other)
 
   pub same_files : (xs ys : List X) → IsStable by_key xs ys → HaveSameFiles (map seen ys) (map seen xs)
   same_files xs ys stable = λ d. files_seen d ys ∙ ap (map seen) (same_in xs ys stable d) ∙ sym (files_seen d xs)

@@ -1,7 +1,10 @@
 -- The totals of the files of the index together are the totals of the chosen files.
-use Rattle.std.proofs.Common.{◌≡◌, ℕ, ◌+◌, ◌≤◌, ◌<◌, ◌^◌, Bool, true, false, cond, not, List, [], ◌∷◌, ◌++◌, map, filter, refl, sym, ap, ◌∙◌, arith}
+use Rattle.std.proofs.Common.{◌≡◌, ℕ, ◌+◌, ◌≤◌, ◌<◌, ◌^◌, Bool, true, false, cond, not, List, [], ◌∷◌, ◌++◌, drop, take, get_or, length, map, filter, refl, sym, ap, ◌∙◌, arith}
 use Rattle.std.proofs.lemmas.Bool.{cond-true, cond-false}
+use Rattle.std.proofs.lemmas.List.{drop_all, drop_more, take-append-drop}
 use Rattle.covhtml.specs.IndexPage.{IndexedFileData}
+use Rattle.covhtml.specs.PagesView.{indexed_file_data}
+use Rattle.covhtml.specs.declared.pages.IndexedFile.{IndexedFile}
 use Rattle.covlist.specs.Chosen.{chosen_among, chosen_files, totals_of_chosen}
 use Rattle.covpages.specs.Directories.{totals_together}
 use Rattle.covpages.specs.Pages.{indexed_after}
@@ -83,22 +86,22 @@ chosen_together : (chosen : List ℕ → Bool) (number : ℕ) (files : List File
     → totals_together (indexed_after number (filter (λ f. chosen f.path) files)) ≡ others (λ path. not (chosen path)) files
 unfolding others
 chosen_together chosen number [] = refl
-chosen_together chosen number (file ∷ files) = by (chosen file.path) refl
+chosen_together chosen number (file ∷ files) = by (chosen file.path) refl (λ n. chosen_together chosen n files)
   where
     rest : Totals
     rest = others (λ path. not (chosen path)) files
 
-    by : (b : Bool) → chosen file.path ≡ b
+    by : (b : Bool) → chosen file.path ≡ b → ((n : ℕ) → totals_together (indexed_after n (filter (λ f. chosen f.path) files)) ≡ others (λ path. not (chosen path)) files)
         → totals_together (indexed_after number (filter (λ f. chosen f.path) (file ∷ files))) ≡ others (λ path. not (chosen path)) (file ∷ files)
-    by true is =
+    by true is more =
         ap (λ (fs : List FileTotalsData). totals_together (indexed_after number fs))
         (cond-true (chosen file.path) (file ∷ filter (λ f. chosen f.path) files) (filter (λ f. chosen f.path) files) is)
-        ∙ ap (together file.totals) (chosen_together chosen (number + 1) files)
+        ∙ ap (together file.totals) (more (number + 1))
         ∙ sym (cond-false (not (chosen file.path)) rest (together file.totals rest) (ap not is))
-    by false is =
+    by false is more =
         ap (λ (fs : List FileTotalsData). totals_together (indexed_after number fs))
         (cond-false (chosen file.path) (file ∷ filter (λ f. chosen f.path) files) (filter (λ f. chosen f.path) files) is)
-        ∙ chosen_together chosen number files
+        ∙ more number
         ∙ sym (cond-true (not (chosen file.path)) rest (together file.totals rest) (ap not is))
 
 -- no file is chosen and all files are others, so the totals of all files are those of the table
@@ -110,7 +113,7 @@ split_others : (chosen : List ℕ → Bool) (files : List FileTotalsData)
     → together (others chosen files) (others (λ path. not (chosen path)) files) ≡ others (λ _. false) files
 unfolding others
 split_others chosen [] = refl
-split_others chosen (file ∷ files) = by (chosen file.path) refl
+split_others chosen (file ∷ files) = by (chosen file.path) refl (split_others chosen files)
   where
     left : Totals
     left = others chosen files
@@ -118,19 +121,19 @@ split_others chosen (file ∷ files) = by (chosen file.path) refl
     right : Totals
     right = others (λ path. not (chosen path)) files
 
-    by : (b : Bool) → chosen file.path ≡ b
+    by : (b : Bool) → chosen file.path ≡ b → together (others chosen files) (others (λ path. not (chosen path)) files) ≡ others (λ _. false) files
         → together (others chosen (file ∷ files)) (others (λ path. not (chosen path)) (file ∷ files)) ≡ together file.totals (others (λ _. false) files)
-    by true is =
+    by true is more =
         ap (λ (t : Totals). together t (others (λ path. not (chosen path)) (file ∷ files))) (cond-true (chosen file.path) left (together file.totals left) is)
         ∙ ap (together left) (cond-false (not (chosen file.path)) right (together file.totals right) (ap not is))
         ∙ same_totals (together left (together file.totals right)) (together file.totals (together left right))
         (omega arith) (omega arith) (omega arith) (omega arith) (omega arith) (omega arith)
-        ∙ ap (together file.totals) (split_others chosen files)
-    by false is =
+        ∙ ap (together file.totals) more
+    by false is more =
         ap (λ (t : Totals). together t (others (λ path. not (chosen path)) (file ∷ files))) (cond-false (chosen file.path) left (together file.totals left) is)
         ∙ ap (together (together file.totals left)) (cond-true (not (chosen file.path)) right (together file.totals right) (ap not is))
         ∙ regrouped file.totals left right
-        ∙ ap (together file.totals) (split_others chosen files)
+        ∙ ap (together file.totals) more
 
 cancelled : (a b c : Totals) → together a c ≡ together b c → a ≡ b
 cancelled a b c e =
@@ -160,3 +163,28 @@ chosen_totals_together choice number sections =
     ∙ cancelled (others (λ path. not (chosen path)) files) (totals_of_chosen choice sections) (others chosen files)
     (swapped (others (λ path. not (chosen path)) files) (others chosen files)
     ∙ split_others chosen files ∙ all ∙ sym (all_parted chosen sections))
+
+-- ---- files added up one by one
+
+-- the next totals fit if those of all files do
+pub next_fits : (a b c whole : Totals) → together a (together b c) ≡ whole → FitTotals whole → FitTogether b a
+next_fits a b c whole e fits = fit_together a b (together a b) refl (first_fits (together a b) c whole (regrouped a b c ∙ e) fits)
+
+module _ (files : List IndexedFile) (i : ℕ) where
+  abbrev pub left : ℕ → Totals
+  left n = totals_together (map indexed_file_data (drop n files))
+
+  pub next_left : (file : IndexedFile) → i < length files → file ≡ get_or files i file → left i ≡ together file.totals (left (i + 1))
+  next_left file lt is =
+      ap (λ (fs : List IndexedFile). totals_together (map indexed_file_data fs))
+      (drop_more files i file lt ∙ ap (λ (f : IndexedFile). f ∷ drop (i + 1) files) (sym is))
+
+  pub none_left : length files ≤ i → left i ≡ no_totals
+  none_left all = ap (λ (fs : List IndexedFile). totals_together (map indexed_file_data fs)) (drop_all i files all)
+
+pub parts_fit : (files : List IndexedFileData) (n : ℕ) → FitTotals (totals_together files) → FitTotals (totals_together (take n files)) × FitTotals (totals_together (drop n files))
+parts_fit files n fits =
+    let front = totals_together (take n files) in
+    let back = totals_together (drop n files) in
+    let whole : together front back ≡ totals_together files = sym (together-append (take n files) (drop n files)) ∙ ap totals_together (take-append-drop n files) in
+    (first_fits front back (totals_together files) whole fits, second_fits front back (totals_together files) whole fits)

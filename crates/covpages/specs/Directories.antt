@@ -52,6 +52,15 @@ Rises (file ∷ files) =
 abbrev pub HaveSameFiles : List IndexedFileData → List IndexedFileData → Type 0
 HaveSameFiles files others = (directory : List ℕ) → files_of files directory ≡ files_of others directory
 
+-- the directory of the first file
+abbrev pub first_path : List IndexedFileData → List ℕ
+first_path [] = []
+first_path (file ∷ files) = directory_of file.path
+
+-- these files, as the directory of this path
+abbrev pub run : (directory : List ℕ) → List IndexedFileData → DirectoryData
+run directory files = record { path = directory; totals = totals_together files; files = files }
+
 -- how many files come before the first one that isn't in this directory
 abbrev pub count_in : (directory : List ℕ) → List IndexedFileData → ℕ
 count_in directory [] = 0

@@ -10,8 +10,8 @@ use Rattle.covpages.specs.Pages.{PagesWorkData}
 use Rattle.covpages.specs.Steps.{ProgressData}
 use Rattle.covpages.specs.declared.writing.Progress.{Progress}
 use Rattle.covpages.specs.Sources.{SourceData, Text, Unreadable, Short}
-use Rattle.covpages.specs.declared.entries.Entry.{Entry}
-use Rattle.covpages.specs.declared.entries.Linked.{Linked}
+use Rattle.covpages.specs.declared.listed.Entry.{Entry}
+use Rattle.covpages.specs.declared.listed.Linked.{Linked}
 use Rattle.covpages.specs.declared.page.Page.{Page}
 use Rattle.covpages.specs.declared.page.Page.TheVariants as pages
 use Rattle.covpages.specs.declared.source_text.Source.{Source}

@@ -1,43 +1,20 @@
 //! The source files that the index lists, by their directories.
 
-ghost use Rattle.std.specs.Prelude.{◌≡◌, ◌≤◌, length, IfOk, OnOk, map};
+ghost use Rattle.std.specs.Prelude.{◌≡◌, ◌≤◌, length, drop, take, IfOk, OnOk, map};
 ghost use Rattle.std.specs.Cmp.Lexicographic.{slice_cmp};
 ghost use Rattle.std.specs.Ordering.{nat_cmp};
 ghost use Rattle.covhtml.specs.PagesView.{directory_data, indexed_directory_data, indexed_file_data};
-ghost use Rattle.covpages.specs.Directories.{HaveSameFiles, Rises, count_in as count_in_directory, directories_of, directory_of as directory_of_path, totals_together};
+ghost use Rattle.covpages.specs.Directories.{HaveSameFiles, Rises, count_in as count_in_directory, directories_of, directory_of as directory_of_path, first_path as first_path_of, run, totals_together};
 ghost use Rattle.covpages.specs.View.{entry_data, linked_data};
 ghost use Rattle.covtable.specs.Totals.{AreTotals};
 ghost use Rattle.covtable.specs.TotalsExchanged.{FitTotals};
 
-use covdata::{Bytes, Memory};
+use crate::listed::{Entry, Linked};
+use covdata::Memory;
 use covhtml::{Directory, IndexedDirectory, IndexedFile, name_of};
 use covtable::Totals;
 use std::alloc::Global;
 use std::cmp::Ordering;
-
-/// A source file that has a page.
-#[derive(Drop)]
-pub(crate) struct Entry<'s> {
-    /// The name of the page.
-    pub(crate) page: Bytes,
-    /// The source file's path.
-    pub(crate) path: &'s [u8],
-    /// The file's totals.
-    pub(crate) totals: Totals,
-    ghost are_totals: { AreTotals totals },
-}
-
-/// A directory that has a page.
-#[derive(Drop)]
-pub(crate) struct Linked<'s> {
-    /// The name of the page.
-    pub(crate) page: Bytes,
-    /// The directory's path.
-    pub(crate) path: &'s [u8],
-    /// The totals of the directory's files.
-    pub(crate) totals: Totals,
-    ghost are_totals: { AreTotals totals },
-}
 
 /// The directories of an index of directories.
 pub(crate) fn indexed_directories<'e>(
@@ -58,9 +35,9 @@ pub(crate) fn indexed_directories<'e>(
 }
 
 /// The files of the index, by their directories, ascending. The files of a directory keep their order.
-pub(crate) fn indexed<'e>(
+pub(crate) fn indexed<'e, 's: 'e>(
     alloc: Global,
-    entries: &'e [Entry<'e>],
+    entries: &'e [Entry<'s>],
 ) -> Result<Vec<IndexedFile<'e>>, Memory>
     ensures rises { IfOk result (λ files. Rises (map indexed_file_data files.items)) }
     ensures same { IfOk result (λ files. HaveSameFiles (map indexed_file_data files.items) (map entry_data entries.now)) }
@@ -72,9 +49,9 @@ pub(crate) fn indexed<'e>(
 }
 
 /// The files of these entries, in their order.
-fn files_of<'e>(
+fn files_of<'e, 's: 'e>(
     alloc: Global,
-    entries: &'e [Entry<'e>],
+    entries: &'e [Entry<'s>],
 ) -> Result<Vec<IndexedFile<'e>>, Memory>
     ensures { IfOk result (λ files. map indexed_file_data files.items ≡ map entry_data entries.now) }
 {
@@ -117,17 +94,44 @@ pub(crate) fn directories<'e>(
 {
     let mut directories = Vec::new(alloc);
     let mut rest = files;
-    while let Some(first) = rest.first() {
-        let path = directory_of(first.path);
-        let (own, others) = rest.split_at(count_in(path, rest));
-        directories.push(Directory {
-            path,
-            totals: totals_of(own),
-            files: own,
-        })?;
-        rest = others;
+    while !rest.is_empty() {
+        let count = count_in(first_path(rest), rest);
+        directories.push(first_directory(rest, count))?;
+        rest = files_from(count, rest);
     }
     Ok(directories)
+}
+
+/// The files without the first `count` ones.
+fn files_from<'s, 'e>(count: usize, files: &'s [IndexedFile<'e>]) -> &'s [IndexedFile<'e>]
+    requires { count ≤ length files.now }
+    ensures { result.now ≡ drop count files.now }
+{
+    &files[count..]
+}
+
+/// The path of the directory of the first file. No path if there are no files.
+fn first_path<'e>(files: &[IndexedFile<'e>]) -> &'e [u8]
+    ensures { result.now ≡ first_path_of (map indexed_file_data files.now) }
+{
+    match files.first() {
+        Some(first) => directory_of(first.path),
+        None => b"",
+    }
+}
+
+/// The first `count` files, as the directory of the first one.
+fn first_directory<'e>(files: &'e [IndexedFile<'e>], count: usize) -> Directory<'e>
+    requires within { count ≤ length files.now }
+    requires fits { FitTotals (totals_together (take count (map indexed_file_data files.now))) }
+    ensures { directory_data result ≡ run (first_path_of (map indexed_file_data files.now)) (take count (map indexed_file_data files.now)) }
+{
+    let own = &files[..count];
+    Directory {
+        path: first_path(files),
+        totals: totals_of(own),
+        files: own,
+    }
 }
 
 /// How many files come before the first one that isn't in this directory.
@@ -161,9 +165,12 @@ fn directory_of(path: &[u8]) -> &[u8]
     ensures { result.now ≡ directory_of_path path.now }
 {
     let front = &path[..path.len() - name_of(path).len()];
-    match front.split_last() {
-        None => b".",
-        Some((_, directory)) if directory.is_empty() => b"/",
-        Some((_, directory)) => directory,
+    let Some((_, directory)) = front.split_last() else {
+        return b".";
+    };
+    if directory.is_empty() {
+        b"/"
+    } else {
+        directory
     }
 }

@@ -25,6 +25,7 @@
 
 mod entries;
 mod fault;
+mod listed;
 mod page;
 mod source_rule;
 mod source_text;

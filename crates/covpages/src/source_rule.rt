@@ -1,6 +1,6 @@
 //! Where source files lie.
 
-ghost use Rattle.std.specs.Prelude.{◌≡◌, IfOk, map, option_map};
+ghost use Rattle.std.specs.Prelude.{◌≡◌, ◌||◌, IfOk, map, option_map};
 ghost use Rattle.std.specs.String.{string_bytes};
 ghost use Rattle.covpages.specs.Sources.{ends_at_slash as ends_with_slash, is_apart as is_apart_rest, located_by, located_in, rest_under, rule_of, rules_of};
 
@@ -19,7 +19,9 @@ impl<'a> SourceRule<'a> {
     pub fn of(word: &'a str) -> Option<SourceRule<'a>>
         ensures { option_map (λ rule. (rule.old.now, rule.new.now)) result ≡ rule_of word.now }
     {
-        let (old, new) = word.split_once('=')?;
+        let Some((old, new)) = word.split_once('=') else {
+            return None;
+        };
         Some(SourceRule {
             old: old.as_bytes(),
             new: new.as_bytes(),
@@ -30,13 +32,22 @@ impl<'a> SourceRule<'a> {
     fn rest_of<'p>(&self, path: &'p [u8]) -> Option<&'p [u8]>
         ensures { option_map (λ rest. rest.now) result ≡ rest_under self.now.old.now path.now }
     {
-        let rest = path.strip_prefix(self.old)?;
-        if is_apart(rest) || ends_at_slash(self.old) {
+        let Some(rest) = path.strip_prefix(self.old) else {
+            return None;
+        };
+        if are_apart(self.old, rest) {
             Some(rest)
         } else {
             None
         }
     }
+}
+
+/// Whether a name ends between `old` and `rest`, which make up a path.
+fn are_apart(old: &[u8], rest: &[u8]) -> bool
+    ensures { result ≡ (is_apart_rest rest.now || ends_with_slash old.now) }
+{
+    is_apart(rest) || ends_at_slash(old)
 }
 
 /// Whether `rest` is nothing, or begins with a slash.

@@ -3,7 +3,7 @@
 ghost use Rattle.std.specs.Prelude.{◌≡◌, ◌++◌, length, IfOk, OnOk, map};
 ghost use Rattle.covhtml.specs.RowView.{row_data};
 ghost use Rattle.covline.specs.Lines.{lines_of};
-ghost use Rattle.covpages.specs.Sources.{complaint_of, IsSource, has_lines as has_lines_of, last_line as last_line_of, shown_text};
+ghost use Rattle.covpages.specs.Sources.{complaint_of, IsSource, has_lines as has_lines_of, last_line as last_line_of, shown_text, source_with};
 ghost use Rattle.covpages.specs.View.{source_data};
 ghost use Rattle.covworld.specs.Folder.{folder_data};
 
@@ -52,11 +52,23 @@ pub(crate) fn read_source<F: Folder>(
         return Ok(Source::Unreadable);
     };
     match file_text(folder, alloc, name) {
-        Ok(text) if text.get().len() > MAX_BYTES => Ok(Source::Unreadable),
-        Ok(text) if has_lines(text.get(), rows) => Ok(Source::Text(text)),
-        Ok(_) => Ok(Source::Short),
+        Ok(text) => Ok(source_of(text, rows)),
         Err(BlockFault::Unreadable) => Ok(Source::Unreadable),
         Err(BlockFault::Memory) => Err(Memory),
+    }
+}
+
+/// What comes of reading a source file that has this text.
+fn source_of(text: Bytes, rows: &[Row<'_>]) -> Source
+    ensures { source_data result ≡ source_with (map row_data rows.now) text }
+{
+    if text.len() > MAX_BYTES {
+        return Source::Unreadable;
+    }
+    if has_lines(text.get(), rows) {
+        Source::Text(text)
+    } else {
+        Source::Short
     }
 }
 

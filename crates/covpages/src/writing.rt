@@ -13,13 +13,14 @@ ghost use Rattle.covpages.specs.View.{entry_data, linked_data, page_text, progre
 ghost use Rattle.covlist.specs.Chosen.{totals_of_chosen};
 ghost use Rattle.covreport.specs.ChoiceView.{choice_data};
 ghost use Rattle.covtable.specs.Files.{files_with_totals};
-ghost use Rattle.covtable.specs.Totals.{AreTotals, own_sections, totals_of};
+ghost use Rattle.covtable.specs.Totals.{AreTotals, own_sections};
 ghost use Rattle.covtable.specs.ValuesView.{file_totals_data};
 ghost use Rattle.covworld.specs.Folder.{folder_data};
 ghost use Rattle.covworld.specs.OutputFiles.{AddsName, Finishes, output_files};
 
-use crate::entries::{Entry, Linked, directories, indexed, indexed_directories};
+use crate::entries::{directories, indexed, indexed_directories};
 use crate::fault::PagesFault;
+use crate::listed::{Entry, Linked};
 use crate::page::Page;
 use crate::source_rule::located;
 use crate::source_text::{Source, put_complaint, read_source};
@@ -74,7 +75,7 @@ struct FileParts<'s> {
 impl<'s> Progress<'s> {
     /// Notes a source file that has a page.
     fn note(&mut self, entry: Entry<'s>) -> Result<(), Memory>
-        ensures entries { OnOk result (map entry_data self.new.entries.items ≡ map entry_data self.old.entries.items ++ entry_data entry ∷ []) }
+        ensures entries { OnOk result (map entry_data self.new.entries.items ≡ map entry_data self.old.entries.items ++ entry_data entry.entry ∷ []) }
         ensures complaints { self.new.complaints ≡ self.old.complaints }
     {
         self.entries.push(entry)?;
@@ -151,7 +152,7 @@ fn write_sources<'s, F: Folder, T: PointsTable<Global>, D: OutputFolder>(
     work: &PagesWork<'_, F, T>,
     files: &[FileTotals<'s>],
     report: &mut D,
-) -> Result<Progress<'s>, PagesFault>
+) -> Result<Progress<'s>, OutputFault>
     requires free { D.begun report.old ≡ None }
     requires few { D.failed report.old < 2 ^ 62 }
     requires files { map file_totals_data files.now ≡ files_with_totals (T.shown work.now.table.now).sections }
@@ -177,12 +178,11 @@ fn write_source<'s, F: Folder, T: PointsTable<Global>, D: OutputFolder>(
     file: FileTotals<'s>,
     progress: &mut Progress<'s>,
     report: &mut D,
-) -> Result<(), PagesFault>
+) -> Result<(), OutputFault>
     requires free { D.begun report.old ≡ None }
     requires few { D.failed report.old < 2 ^ 62 }
-    requires totals { file.totals ≡ totals_of (own_sections file.path.now (T.shown work.now.table.now).sections) }
     requires bounds { AreTotals file.totals }
-    ensures next { OnOk result (IsNext (work_data (folder_data F.Folder F.File.Source work.now.sources.now) work.now) (T.shown work.now.table.now).sections (file_totals_data file) (progress_data progress.old) (progress_data progress.new) (output_files (D.finished report.old) (D.names report.old) (D.begun report.old) (D.failed report.old)) (output_files (D.finished report.new) (D.names report.new) (D.begun report.new) (D.failed report.new))) }
+    ensures next { OnOk result (IsNext (work_data (folder_data F.Folder F.File.Source work.now.sources.now) work.now) (T.shown work.now.table.now).sections (file_totals_data file.entry) (progress_data progress.old) (progress_data progress.new) (output_files (D.finished report.old) (D.names report.old) (D.begun report.old) (D.failed report.old)) (output_files (D.finished report.new) (D.names report.new) (D.begun report.new) (D.failed report.new))) }
     ensures none { D.begun report.new ≡ None }
     ensures good { OnOk result (D.failed report.new ≡ D.failed report.old) }
 {
@@ -235,7 +235,7 @@ fn write_page<D: OutputFolder>(
 ) -> Result<(), OutputFault>
     requires free { D.begun report.old ≡ None }
     requires few { D.failed report.old < 2 ^ 62 }
-    ensures finished { OnOk result (Finishes name.now (page_text page) (D.finished report.old) (D.finished report.new)) }
+    ensures finished { OnOk result (Finishes name.now (page_text page.entry) (D.finished report.old) (D.finished report.new)) }
     ensures named { OnOk result (AddsName name.now (D.names report.old) (D.names report.new)) }
     ensures none { D.begun report.new ≡ None }
     ensures good { OnOk result (D.failed report.new ≡ D.failed report.old) }
@@ -267,7 +267,7 @@ fn write_index<F, T: PointsTable<Global>, D: OutputFolder>(
     work: &PagesWork<'_, F, T>,
     entries: &[Entry<'_>],
     report: &mut D,
-) -> Result<(), PagesFault>
+) -> Result<(), OutputFault>
     requires free { D.begun report.old ≡ None }
     requires few { D.failed report.old < 2 ^ 62 }
     requires totals { totals_together (map entry_data entries.now) ≡ totals_of_chosen (choice_data work.now.choice.now) (T.shown work.now.table.now).sections }
@@ -300,7 +300,7 @@ fn write_directories<F, T: PointsTable<Global>, D: OutputFolder>(
     number: u64,
     directories: &[Directory<'_>],
     report: &mut D,
-) -> Result<(), PagesFault>
+) -> Result<(), OutputFault>
     requires free { D.begun report.old ≡ None }
     requires few { D.failed report.old < 2 ^ 62 }
     requires number { number < 2 ^ 63 }
@@ -329,7 +329,7 @@ fn write_directory_pages<'d, D: OutputFolder>(
     number: u64,
     directories: &[Directory<'d>],
     report: &mut D,
-) -> Result<Vec<Linked<'d>>, PagesFault>
+) -> Result<Vec<Linked<'d>>, OutputFault>
     requires free { D.begun report.old ≡ None }
     requires few { D.failed report.old < 2 ^ 62 }
     requires number { number < 2 ^ 63 }
@@ -355,7 +355,7 @@ fn write_directory_pages<'d, D: OutputFolder>(
 
 /// Appends a directory that has a page.
 fn push_linked<'d>(linked: &mut Vec<Linked<'d>>, last: Linked<'d>) -> Result<(), Memory>
-    ensures { OnOk result (map linked_data linked.new.items ≡ map linked_data linked.old.items ++ linked_data last ∷ []) }
+    ensures { OnOk result (map linked_data linked.new.items ≡ map linked_data linked.old.items ++ linked_data last.entry ∷ []) }
 {
     linked.push(last)?;
     Ok(())
