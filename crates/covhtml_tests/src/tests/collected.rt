@@ -47,10 +47,11 @@ impl Collected {
         check_bytes(rt, self.text.get(), wanted);
     }
 
-    /// Checks that `wanted` is a part of what was printed.
+    /// Checks that `wanted`, which must not be empty, is a part of what was printed.
     pub(super) fn check_part(&self, rt: &impl Abort, wanted: &[u8]) {
         let text = self.text.get();
         assert!(rt; self.is_whole, "out of memory");
+        assert!(rt; !wanted.is_empty(), "nothing to look for");
         assert!(rt;
             text.windows(wanted.len()).any(|part| part == wanted),
             "another page"
