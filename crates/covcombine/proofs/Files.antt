@@ -1,11 +1,9 @@
 -- What is collected of the inputs is collected of the files of their names.
-use Rattle.std.proofs.Common.{◌≡◌, ℕ, zero, suc, ◌<◌, ◌≤◌, List, [], ◌∷◌, ◌++◌, length, map, Option, sym, ap, ◌∙◌, subst, arith}
+use Rattle.std.proofs.Common.{◌≡◌, ℕ, zero, suc, ◌≤◌, List, [], ◌∷◌, ◌++◌, length, map, Option, sym, ap, ◌∙◌, subst, arith}
 use Rattle.std.proofs.lemmas.List.{length-map}
 use Rattle.std.specs.List.{AllByRecursion}
-use Rattle.covbook.specs.Gather.{LogData}
-use Rattle.covbook.specs.Op.{EntryData, OpData}
+use Rattle.covbook.specs.Op.{EntryData}
 use Rattle.covbook.specs.Step.{max_entries, next_entry}
-use Rattle.covbook.specs.Texts.{IsText}
 use Rattle.covcommand.specs.declared.asked.Strictness.{Strictness}
 use Rattle.covworkers.specs.Collect.{AreOutcomes, IsCollectedWith, OutcomeData, all_places, submissions_of}
 use Rattle.covworkers.specs.Late.{FillHistory, IsCollectedSoFar, IsFirstUnread, IsIntoBookFault, MayCome, MayComeAtAll}

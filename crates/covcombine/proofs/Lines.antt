@@ -1,5 +1,5 @@
 -- Lines that are put together of parts, one append after another.
-use Rattle.std.proofs.Common.{◌≡◌, ◌==◌, ℕ, Bool, false, true≢false, List, [], ◌∷◌, ◌++◌, length, codes, Result, OnOk, append_assoc, refl, sym, ap, subst, ◌∙◌}
+use Rattle.std.proofs.Common.{◌≡◌, ◌==◌, ℕ, false, true≢false, List, [], ◌∷◌, ◌++◌, length, codes, Result, OnOk, append_assoc, refl, subst}
 use Rattle.covlist.specs.Shown.{shown_name}
 use Rattle.covcombine.specs.Messages.{begins_words}
 

@@ -1,5 +1,5 @@
 -- A file is opened, and its first bytes are read: what the open tracefile gives, the file may give.
-use Rattle.std.proofs.Common.{◌≡◌, inl, inr, ℕ, suc, ◌<◌, ◌≤◌, List, [], ◌∷◌, ◌++◌, length, Option, Some, None, option_map, Result, Ok, Err, refl, sym, ap, subst, ◌∙◌, arith}
+use Rattle.std.proofs.Common.{◌≡◌, inl, inr, ℕ, suc, ◌≤◌, List, [], ◌++◌, length, Option, Some, None, option_map, Result, Ok, Err, refl, sym, ap, subst, ◌∙◌, arith}
 use Rattle.std.proofs.KnownBytes.{Consumes-trans}
 use Rattle.std.specs.Io.KnownBytes.{Consumes, Keeps}
 use Rattle.covcommand.specs.declared.asked.Strictness.{Strictness}
@@ -9,7 +9,6 @@ use Rattle.covdata.specs.declared.fault.ReadFault.{ReadFault}
 use Rattle.covdata.specs.declared.version.LcovVersion.TheVariants.{Two}
 use Rattle.covlarge.specs.Large.{IsAll, IsReadAs, MayBeReadAs, max_pieces}
 use Rattle.covlarge.specs.State.{MayFailFrom, MayGive}
-use Rattle.covlarge.specs.StateData.{StateData}
 use Rattle.covlarge.specs.Summary.{SummaryData}
 use Rattle.covstream.specs.Blocks.{HasReadAtMost, IsReadFault}
 use Rattle.covstream.specs.declared.fault.BlockFault.{BlockFault}
@@ -17,7 +16,7 @@ use Rattle.covstream.specs.declared.fault.BlockFault.TheVariants as blocks
 use Rattle.covstream.specs.declared.stream.Source.{Ghosts as SourceOf}
 use Rattle.covworkers.specs.Collect.{OutcomeData}
 use Rattle.covworld.proofs.Folders.{text_at_most}
-use Rattle.covworld.specs.Folder.{FolderData, folder_data}
+use Rattle.covworld.specs.Folder.{folder_data}
 use Rattle.covworld.specs.declared.folder.Folder.{Ghosts as FolderOf}
 use Rattle.covcombine.specs.Notes.{AreUnknown, IsNoted, IsOfFile, IsOfTracefile, IsUnlessStrange, note_of}
 use Rattle.covcombine.specs.Steps.{EndsWith, IsOpenedFor, IsToldFor, MayGiveOpened, counts_with, no_counts, note_at, of_block, unknown_told}

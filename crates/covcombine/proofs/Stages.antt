@@ -1,11 +1,9 @@
 -- One piece of an open tracefile, and how collecting takes it.
-use Rattle.std.proofs.Common.{◌≡◌, inl, inr, ℕ, ◌<◌, List, [], ◌∷◌, Option, Some, None, Result, Ok, Err, refl, sym, ap, subst, ◌∙◌}
+use Rattle.std.proofs.Common.{◌≡◌, inl, inr, ℕ, ◌<◌, List, [], ◌∷◌, Option, Some, Result, Ok, Err, refl, sym, ap, subst, ◌∙◌}
 use Rattle.std.specs.Prelude.{IfErr}
 use Rattle.covcommand.specs.declared.asked.Strictness.{Strictness}
 use Rattle.covdata.specs.Row.{SubmissionData}
-use Rattle.covdata.specs.declared.fault.ReadFault.{ReadFault}
-use Rattle.covlarge.specs.State.{IsNextPiece, MayFailFrom, MayGive}
-use Rattle.covlarge.specs.StateData.{StateData}
+use Rattle.covlarge.specs.State.{IsNextPiece}
 use Rattle.covlarge.specs.Summary.{SummaryData}
 use Rattle.covlarge.specs.declared.fault.PieceFault.{PieceFault}
 use Rattle.covlarge.specs.declared.fault.PieceFault.TheVariants as pieces
@@ -16,7 +14,6 @@ use Rattle.covworkers.specs.Late.{IsNextPart}
 use Rattle.covworkers.specs.Work.{in_front}
 use Rattle.covworkers.specs.declared.late_fault.LateFault.{LateFault}
 use Rattle.covworkers.specs.declared.part.Part.{Part}
-use Rattle.covworkers.specs.declared.part.Part.TheVariants as given_parts
 use Rattle.covworld.specs.Folder.{FolderData}
 use Rattle.covcombine.specs.Notes.{IsOfFile, note_of}
 use Rattle.covcombine.specs.Steps.{EndsWith, IsLater, IsNextStage, IsOpenedFor, MayGiveFrom, MayGiveLater, MayGiveOpened, counts_with, most_parts, note_at, of_piece, of_stop, unknown_told}

@@ -21,7 +21,7 @@ use Rattle.covcombine.specs.Messages.{call_fault_line, cut_line, expected_line, 
 use Rattle.covcombine.specs.Notes.{IsOfFile}
 use Rattle.covcombine.specs.Options.{AreJobsFor, CombineData, IsCallFault, IsWorkOf}
 use Rattle.covcombine.specs.declared.call_fault.CallFault.{CallFault}
-use Rattle.covcombine.specs.declared.call_fault.CallFault.TheVariants.{ManyPatterns, LongPattern, NoRate, NoRoom, NoName, Twice}
+use Rattle.covcombine.specs.declared.call_fault.CallFault.TheVariants.{NoName}
 use Rattle.covcombine.specs.declared.note.Note.{Note}
 
 -- ---- how files are collected

@@ -25,7 +25,7 @@ use Rattle.covworkers.specs.declared.late_fault.LateFault.TheVariants as late
 use Rattle.covworld.specs.Folder.{FolderData}
 use Rattle.covcombine.specs.Notes.{IsOfFile, note_of}
 use Rattle.covcombine.specs.Options.{AsksForOverview, IsCallFault, IsTwice}
-use Rattle.covcombine.specs.declared.call_fault.CallFault.TheVariants.{ManyPatterns, LongPattern, NoRate, NoRoom, NoName, Twice}
+use Rattle.covcombine.specs.declared.call_fault.CallFault.TheVariants.{ManyPatterns, LongPattern, NoRate, NoName, Twice}
 use Rattle.covcombine.specs.declared.call_fault.CallOption.{CallOption}
 use Rattle.covcombine.specs.declared.call_fault.WorkFault.{WorkFault}
 use Rattle.covcombine.specs.declared.call_fault.WorkFault.TheVariants as works

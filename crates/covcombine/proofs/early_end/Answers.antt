@@ -1,5 +1,4 @@
 use Rattle.std.proofs.Common.{inl, inr, subst}
-use Rattle.covcombine.specs.Combined.{StopsEarly}
 use Rattle.covcombine.specs.Steps.{IsWorkFault}
 use Rattle.covcombine.specs.declared.call_fault.WorkFault.{WorkFault}
 use Rattle.covcombine.proofs.early_end.Goals as goal

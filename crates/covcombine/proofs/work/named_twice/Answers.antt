@@ -1,4 +1,4 @@
-use Rattle.std.proofs.Common.{◌≡◌, ◌∙◌, refl, ap, string_bytes, arith}
+use Rattle.std.proofs.Common.{◌∙◌, refl, ap, string_bytes, arith}
 use Rattle.covcombine.proofs.Twice.{none_at_end, none_first, none_on, seen_on, twice_at, was_new, was_there}
 use Rattle.covcombine.proofs.work.named_twice.Goals as goal
 
