@@ -175,3 +175,33 @@ linked_on number last (e ∷ front) d is =
     let more : last ≡ number + 1 + length front = omega arith in
     let here : IndexedDirectoryData = record { page = directory_page_name (number + 1) e.path; path = e.path; totals = e.totals } in
     ap (λ (l : List IndexedDirectoryData). here ∷ l) (linked_on (number + 1) last front d more)
+
+module _ (number place : ℕ) (front more : List DirectoryData) (d : DirectoryData) (name : List ℕ) (at : length front ≡ place)
+    (is : more ≡ front ++ d ∷ []) (called : name ≡ directory_page_name (number + place + 1) d.path) where
+  last_is : number + place ≡ number + length front
+  last_is = omega (arith, at)
+
+  pages_are : directory_pages number more ≡ directory_pages number front ++ (name, directory_page d) ∷ []
+  pages_are =
+      ap (directory_pages number) is ∙ directory_pages_on number (number + place) front d last_is
+      ∙ ap (λ (n : List ℕ). directory_pages number front ++ (n, directory_page d) ∷ []) (sym called)
+
+  pub page_finished : (files middle after : Finished) → AreFinished (directory_pages number front) files middle → Finishes name (directory_page d) middle after
+      → AreFinished (directory_pages number more) files after
+  page_finished files middle after so_far done =
+      subst (λ (l : List (List ℕ × List ℕ)). AreFinished l files after) (sym pages_are)
+      (finished_on (directory_pages number front) ((name, directory_page d) ∷ []) files middle after so_far (one_finished name (directory_page d) middle after done))
+
+  pub page_added : (names middle after : List (List ℕ)) → AreAdded (directory_pages number front) names middle → AddsName name middle after
+      → AreAdded (directory_pages number more) names after
+  page_added names middle after so_far done =
+      subst (λ (l : List (List ℕ × List ℕ)). AreAdded l names after) (sym pages_are)
+      (added_on (directory_pages number front) ((name, directory_page d) ∷ []) names middle after so_far done)
+
+  pub page_linked : (old new : List IndexedDirectoryData) → old ≡ linked_after number front
+      → (let made : IndexedDirectoryData = record { page = name; path = d.path; totals = d.totals } in new ≡ old ++ made ∷ []) → new ≡ linked_after number more
+  page_linked old new so_far pushed =
+      pushed
+      ∙ ap (λ (l : List IndexedDirectoryData). l ++ (let made : IndexedDirectoryData = record { page = name; path = d.path; totals = d.totals } in made) ∷ []) so_far
+      ∙ ap (λ (n : List ℕ). linked_after number front ++ (let made : IndexedDirectoryData = record { page = n; path = d.path; totals = d.totals } in made) ∷ []) called
+      ∙ sym (ap (linked_after number) is ∙ linked_on number (number + place) front d last_is)

@@ -126,10 +126,11 @@ fn write_report<F: Folder, T: PointsTable<Global>, D: OutputFolder>(
 {
     write_text(work.alloc, "style.css", Page::Style, report)?;
     let files = work.table.files(work.alloc)?;
+    let progress = write_sources(work, files.as_slice(), report)?;
     let Progress {
         entries,
         complaints,
-    } = write_sources(work, files.as_slice(), report)?;
+    } = progress;
     if refuses(work.strictness, &complaints) {
         return Err(PagesFault::Refused(complaints));
     }
@@ -160,14 +161,17 @@ fn write_sources<'s, F: Folder, T: PointsTable<Global>, D: OutputFolder>(
     ensures none { D.begun report.new ≡ None }
     ensures good { OnOk result (D.failed report.new ≡ D.failed report.old) }
 {
+    let entries = Vec::new(work.alloc);
+    let complaints = Bytes::new(work.alloc);
     let mut progress = Progress {
-        entries: Vec::new(work.alloc),
-        complaints: Bytes::new(work.alloc),
+        entries,
+        complaints,
     };
     for file in files {
-        if work.choice.takes(file.path) {
-            write_source(work, *file, &mut progress, report)?;
+        if !work.choice.takes(file.path) {
+            continue;
         }
+        write_source(work, *file, &mut progress, report)?;
     }
     Ok(progress)
 }
