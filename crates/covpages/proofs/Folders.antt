@@ -75,13 +75,20 @@ module _ (work : PagesWorkData) (sections : List SectionData) (files begun after
       → after.begun ≡ files.begun → after.failed ≡ files.failed → IsWritten work sections files after warnings
   folder_written report none no_names kept names_kept done named same good =
       let made : Files = files_of work sections report.sources in
-      let names : full.names ≡ map (λ f. f.0) made = report.named ∙ ap (λ (l : List (List ℕ)). l ++ map (λ f. f.0) made) no_names in
-      (report.sources, report.are, report.complaints, report.taken,
-      (finishes_folder work.folder made files.finished empty.finished full.finished after.finished none report.finished
-      (subst (λ (f : Option Files). FinishesFolder work.folder full.finished f after.finished) kept done),
-      subst (λ (l : List (List ℕ)). AddsFolder work.folder l files.names after.names) names
-      (subst (λ (l : List (List ℕ)). AddsFolder work.folder full.names l after.names) names_kept named),
-      same, good))
+      let names : full.names ≡ map (λ f. f.0) made = report.named ∙ ap (λ (l : List (List ℕ)). l ++ map (λ f. f.0) made) no_names in (
+        report.sources,
+        report.are,
+        report.complaints,
+        report.taken,
+        (
+          finishes_folder work.folder made files.finished empty.finished full.finished after.finished none report.finished
+              (subst (λ (f : Option Files). FinishesFolder work.folder full.finished f after.finished) kept done),
+          subst (λ (l : List (List ℕ)). AddsFolder work.folder l files.names after.names) names
+              (subst (λ (l : List (List ℕ)). AddsFolder work.folder full.names l after.names) names_kept named),
+          same,
+          good,
+        ),
+      )
 
 -- ---- what is told if nothing was written
 

@@ -52,7 +52,7 @@ pub trait FolderWriter: OutputFolder {
         ensures good { OnOk result (Self.failed self.new ≡ Self.failed self.old) }
         ensures counted { IfErr result (λ fault. CountsFolderFault fault (Self.failed self.old) (Self.failed self.new)) };
 
-    /// Gives a folder its place, with a list of its files. Drops the folder on an error.
+    /// Gives a folder its name, with a list of its files. Drops the folder on an error.
     fn finish_folder(
         &mut self,
         folder: Self::NewFolder,

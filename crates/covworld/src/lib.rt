@@ -7,7 +7,7 @@
 //! `file_text` reads a whole file. `ReadyText::of` reserves all memory for printing a text. The text then goes in blocks, while it
 //! is made from a store, to the output (`Sinks::print`) or into a file (`write_file`). The file gets its name after its whole text
 //! is written. A `FolderWriter` writes whole folders too: `write_text` writes the files of a new
-//! one, which gets its place last.
+//! one, which gets its name last.
 //!
 //! A sketch, which no test runs: a function that prints a file, or reports that the file can't be read.
 //!

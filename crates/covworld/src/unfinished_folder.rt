@@ -303,7 +303,10 @@ pub(crate) fn finish_folder<R: Files + RandomSource + AllocGlobal>(
         return Err(fault);
     }
     let UnfinishedFolder {
-        rt, from, folder, ..
+        rt,
+        from,
+        folder,
+        ..
     } = listed;
     let placed = put_in_place(rt, from.as_str(), folder, place);
     if placed.is_err() {
