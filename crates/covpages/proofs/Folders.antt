@@ -1,7 +1,8 @@
 -- The folder of pages, from what was written of it.
-use Rattle.std.proofs.Common.{◌≡◌, ℕ, zero, suc, ◌<◌, ◌≤◌, Bool, true, false, nat_le, List, [], ◌∷◌, ◌++◌, get_or, length, map, Option, None, Some, refl, sym, ap, ◌∙◌, subst, codes, unwrap_or, arith}
+use Rattle.std.proofs.Common.{◌≡◌, ℕ, zero, suc, ◌+◌, ◌<◌, ◌≤◌, Bool, true, false, nat_le, List, [], ◌∷◌, ◌++◌, get_or, length, map, take, Option, None, Some, refl, sym, ap, ◌∙◌, subst, codes, unwrap_or, arith}
 use Rattle.std.proofs.lemmas.Bool.{cond-true, cond-false}
 use Rattle.std.proofs.lemmas.Bool.Decides.{nat_tests}
+use Rattle.std.proofs.lemmas.List.{map-append, take_more}
 use Rattle.covhtml.specs.DirectoryPages.{DirectoryIndexData, IndexedDirectoryData, directory_index}
 use Rattle.covhtml.specs.IndexPage.{DirectoryData, IndexPageData, IndexedFileData, index_page}
 use Rattle.covhtml.specs.declared.style_sheet.TheConstants.{STYLE}
@@ -74,13 +75,20 @@ module _ (work : PagesWorkData) (sections : List SectionData) (files begun after
       → after.begun ≡ files.begun → after.failed ≡ files.failed → IsWritten work sections files after warnings
   folder_written report none no_names kept names_kept done named same good =
       let made : Files = files_of work sections report.sources in
-      let names : full.names ≡ map (λ f. f.0) made = report.named ∙ ap (λ (l : List (List ℕ)). l ++ map (λ f. f.0) made) no_names in
-      (report.sources, report.are, report.complaints, report.taken,
-      (finishes_folder work.folder made files.finished empty.finished full.finished after.finished none report.finished
-      (subst (λ (f : Option Files). FinishesFolder work.folder full.finished f after.finished) kept done),
-      subst (λ (l : List (List ℕ)). AddsFolder work.folder l files.names after.names) names
-      (subst (λ (l : List (List ℕ)). AddsFolder work.folder full.names l after.names) names_kept named),
-      same, good))
+      let names : full.names ≡ map (λ f. f.0) made = report.named ∙ ap (λ (l : List (List ℕ)). l ++ map (λ f. f.0) made) no_names in (
+        report.sources,
+        report.are,
+        report.complaints,
+        report.taken,
+        (
+          finishes_folder work.folder made files.finished empty.finished full.finished after.finished none report.finished
+              (subst (λ (f : Option Files). FinishesFolder work.folder full.finished f after.finished) kept done),
+          subst (λ (l : List (List ℕ)). AddsFolder work.folder l files.names after.names) names
+              (subst (λ (l : List (List ℕ)). AddsFolder work.folder full.names l after.names) names_kept named),
+          same,
+          good,
+        ),
+      )
 
 -- ---- what is told if nothing was written
 
@@ -96,10 +104,14 @@ folder_refused work sections folder_faults.Memory = tt
 -- ---- the totals of the shown files
 
 -- of the file at this place, no more points are hit than found
-pub bounds_at : {X : Type 0} (seen : X → FileTotalsData) (xs : List X) → AreAllTotals (map seen xs) → (i : ℕ) → i < length xs → (x : X) → x ≡ get_or xs i x → AreTotals (seen x).totals
-bounds_at seen [] all i lt x is = absurd (omega (arith, lt))
-bounds_at {X} seen (y ∷ xs) all zero lt x is = subst (λ (z : X). AreTotals (seen z).totals) (sym is) (first_totals (seen y) (map seen (y ∷ xs)) (map seen xs) refl all)
-bounds_at seen (y ∷ xs) all (suc i) lt x is = bounds_at seen xs (other_totals (seen y) (map seen (y ∷ xs)) (map seen xs) refl all) i (omega arith) x is
+pub bounds_at : {X : Type 0} (seen : X → FileTotalsData) (xs : List X) → AreAllTotals (map seen xs) → (i : ℕ) (d : X) → i < length xs → AreTotals (seen (get_or xs i d)).totals
+bounds_at seen [] all i d lt = absurd (omega (arith, lt))
+bounds_at seen (y ∷ xs) all zero d lt = first_totals (seen y) (map seen (y ∷ xs)) (map seen xs) refl all
+bounds_at seen (y ∷ xs) all (suc i) d lt = bounds_at seen xs (other_totals (seen y) (map seen (y ∷ xs)) (map seen xs) refl all) i d (omega arith)
+
+-- one more element, seen
+pub more_at : {X Y : Type 0} (seen : X → Y) (xs : List X) (i : ℕ) (d : X) → i < length xs → map seen (take (i + 1) xs) ≡ map seen (take i xs) ++ seen (get_or xs i d) ∷ []
+more_at seen xs i d lt = ap (map seen) (take_more xs i d lt) ∙ map-append seen (take i xs) (get_or xs i d ∷ [])
 
 -- ---- the index
 

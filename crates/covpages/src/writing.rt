@@ -99,10 +99,10 @@ pub fn write_pages<F: Folder, T: PointsTable<Global>, P: FolderWriter>(
     ensures unnamed { OnErr result (P.names files.new ≡ P.names files.old) }
     ensures none { P.begun files.new ≡ None }
 {
-    let mut report = files.begin_folder(work.options.folder.as_str())?;
+    let (mut report, place) = files.begin_folder(work.options.folder.as_str())?;
     match write_report(work, &mut report) {
         Ok(warnings) => {
-            files.finish_folder(report)?;
+            files.finish_folder(report, place)?;
             Ok(warnings)
         }
         Err(fault) => {

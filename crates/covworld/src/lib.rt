@@ -58,6 +58,6 @@ pub use printed_text::PrintedText;
 pub use ready_text::ReadyText;
 pub use sinks::Sinks;
 pub use unfinished_file::UnfinishedFile;
-pub use unfinished_folder::UnfinishedFolder;
+pub use unfinished_folder::{FolderPlace, UnfinishedFolder};
 pub use world::World;
 pub use written_file::{write_file, write_text};

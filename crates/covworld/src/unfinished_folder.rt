@@ -39,16 +39,20 @@ pub struct UnfinishedFolder<'a, R> {
     // The path of the temporary folder.
     from: String,
     folder: CreatedFolder,
-    // The finished folder.
-    target: Target,
     // The names of the files so far, one on each line.
     listing: Bytes,
-    // The names of the older folder's files; `None` if there is no older folder, or an empty one.
-    older: Option<Vec<String>>,
     // The name of the file that is begun.
     begun: Option<String>,
     failed: u64,
     ghost made: { folder.path.bytes ≡ string_bytes from },
+}
+
+/// Where a finished folder will be.
+#[derive(Drop)]
+pub struct FolderPlace {
+    pub(crate) target: Target,
+    // The names of the older folder's files; `None` if there is no older folder, or an empty one.
+    older: Option<Vec<String>>,
 }
 
 impl<'a, R> UnfinishedFolder<'a, R> {
@@ -96,7 +100,6 @@ impl<'a, R: Files + RandomSource + AllocGlobal> UnfinishedFolder<'a, R> {
     fn store(&mut self, file: UnfinishedFile<R::File>, name: &str) -> Result<(), OutputFault>
         ensures files { OnOk result (self.new.folder.files.all ≡ self.old.folder.files.all ++ name.now ∷ []) }
         ensures same { OnErr result (self.new.folder ≡ self.old.folder) }
-        ensures target { self.new.target ≡ self.old.target }
         ensures begun { self.new.begun ≡ self.old.begun }
         ensures failed { self.new.failed ≡ self.old.failed }
     {
@@ -156,11 +159,11 @@ impl<'a, R: Files + RandomSource + AllocGlobal> OutputFolder for UnfinishedFolde
 pub(crate) fn begin_folder<'a, R: Files + RandomSource + AllocGlobal>(
     rt: &'a R,
     name: &str,
-) -> Result<UnfinishedFolder<'a, R>, FolderFault>
-    ensures name { IfOk result (λ folder. string_bytes folder.target.name ≡ name.now) }
-    ensures files { IfOk result (λ folder. folder.folder.files.all ≡ []) }
-    ensures begun { IfOk result (λ folder. folder.begun ≡ None) }
-    ensures failed { IfOk result (λ folder. folder.failed ≡ 0) }
+) -> Result<(UnfinishedFolder<'a, R>, FolderPlace), FolderFault>
+    ensures name { IfOk result (λ r. string_bytes r.1.target.name ≡ name.now) }
+    ensures files { IfOk result (λ r. r.0.folder.files.all ≡ []) }
+    ensures begun { IfOk result (λ r. r.0.begun ≡ None) }
+    ensures failed { IfOk result (λ r. r.0.failed ≡ 0) }
 {
     let target = target_of(rt, name)?;
     let older = old_files(rt, target.path())?;
@@ -170,16 +173,15 @@ pub(crate) fn begin_folder<'a, R: Files + RandomSource + AllocGlobal>(
         let _ = rt.remove_dir(from.as_str());
         return Err(FolderFault::Failed);
     }
-    Ok(UnfinishedFolder {
+    let unfinished = UnfinishedFolder {
         rt,
         from,
         folder,
-        target,
         listing: Bytes::new(rt.alloc()),
-        older,
         begun: None,
         failed: 0,
-    })
+    };
+    Ok((unfinished, FolderPlace { target, older }))
 }
 
 /// Gives the folder `from`, which has no files yet, the rights, owner and group of the folder `old`, if there is one. The owner may
@@ -287,11 +289,12 @@ fn path_of_file<R: AllocGlobal>(rt: &R, folder: &str, name: &str) -> Result<Stri
     Ok(path)
 }
 
-/// Gives `folder` its name, with a list of its files, or removes it if it can't get the name.
+/// Gives `folder` its place, with a list of its files, or removes it if it can't get the place.
 pub(crate) fn finish_folder<R: Files + RandomSource + AllocGlobal>(
     folder: UnfinishedFolder<'_, R>,
+    place: FolderPlace,
 ) -> Result<PlacedFolder, OutputFault>
-    ensures name { IfOk result (λ placed. placed.name ≡ folder.entry.target.name) }
+    ensures name { IfOk result (λ placed. placed.name ≡ place.target.name) }
     ensures files { IfOk result (λ placed. placed.files.all ≡ folder.entry.folder.files.all ++ list_name ∷ []) }
 {
     let mut listed = folder;
@@ -303,11 +306,9 @@ pub(crate) fn finish_folder<R: Files + RandomSource + AllocGlobal>(
         rt,
         from,
         folder,
-        target,
-        older,
         ..
     } = listed;
-    let placed = put_in_place(rt, from.as_str(), folder, target, &older);
+    let placed = put_in_place(rt, from.as_str(), folder, place);
     if placed.is_err() {
         // The run already ends with the error.
         let _ = rt.remove_dir_all(rt.alloc(), from.as_str());
@@ -320,7 +321,6 @@ fn write_list<R: Files + RandomSource + AllocGlobal>(
     folder: &mut UnfinishedFolder<'_, R>,
 ) -> Result<(), OutputFault>
     ensures files { OnOk result (folder.new.folder.files.all ≡ folder.old.folder.files.all ++ list_name ∷ []) }
-    ensures target { folder.new.target ≡ folder.old.target }
 {
     let mut list = begin_inside(folder.rt, folder.from.as_str(), LIST_NAME)?;
     if put_bytes(folder.listing.get(), &mut list).is_err() {
@@ -329,19 +329,19 @@ fn write_list<R: Files + RandomSource + AllocGlobal>(
     folder.store(list, LIST_NAME)
 }
 
-/// Renames the folder `from` to `target`.
+/// Renames the folder `from` to its place.
 fn put_in_place<R: Files + RandomSource + AllocGlobal>(
     rt: &R,
     from: &str,
     folder: CreatedFolder,
-    target: Target,
-    older: &Option<Vec<String>>,
+    place: FolderPlace,
 ) -> Result<PlacedFolder, OutputFault>
     requires { folder.path.bytes ≡ from.now }
-    ensures name { IfOk result (λ placed. placed.name ≡ target.name) }
+    ensures name { IfOk result (λ placed. placed.name ≡ place.target.name) }
     ensures files { IfOk result (λ placed. placed.files ≡ folder.files) }
 {
-    match older {
+    let FolderPlace { target, older } = place;
+    match &older {
         // The system replaces an empty folder at once, and refuses to replace one that isn't empty.
         None => Ok(folder.rename(rt, from, target)?),
         Some(files) => replace(rt, from, folder, target, files.as_slice()),

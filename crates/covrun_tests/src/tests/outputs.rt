@@ -49,16 +49,18 @@ impl OutputFolder for NoFiles {
 }
 
 impl FolderWriter for NoFiles {
-    ghost folder_name = { λ _. [] };
+    ghost place_name = { λ _. [] };
 
     type NewFolder = NoFiles;
 
-    fn begin_folder(&mut self, _name: &str) -> Result<NoFiles, FolderFault> {
+    type Place = ();
+
+    fn begin_folder(&mut self, _name: &str) -> Result<(NoFiles, ()), FolderFault> {
         self.failed += 1;
         Err(FolderFault::Failed)
     }
 
-    fn finish_folder(&mut self, folder: NoFiles) -> Result<(), OutputFault> {
+    fn finish_folder(&mut self, folder: NoFiles, _place: ()) -> Result<(), OutputFault> {
         drop(folder);
         self.failed += 1;
         Err(OutputFault::Failed)
@@ -133,16 +135,18 @@ impl OutputFolder for Shelf {
 }
 
 impl FolderWriter for Shelf {
-    ghost folder_name = { λ _. [] };
+    ghost place_name = { λ _. [] };
 
     type NewFolder = NoFiles;
 
-    fn begin_folder(&mut self, _name: &str) -> Result<NoFiles, FolderFault> {
+    type Place = ();
+
+    fn begin_folder(&mut self, _name: &str) -> Result<(NoFiles, ()), FolderFault> {
         self.failed += 1;
         Err(FolderFault::Failed)
     }
 
-    fn finish_folder(&mut self, folder: NoFiles) -> Result<(), OutputFault> {
+    fn finish_folder(&mut self, folder: NoFiles, _place: ()) -> Result<(), OutputFault> {
         drop(folder);
         self.failed += 1;
         Err(OutputFault::Failed)
@@ -362,16 +366,18 @@ impl OutputFolder for Shorts {
 }
 
 impl FolderWriter for Shorts {
-    ghost folder_name = { λ _. [] };
+    ghost place_name = { λ _. [] };
 
     type NewFolder = NoFiles;
 
-    fn begin_folder(&mut self, _name: &str) -> Result<NoFiles, FolderFault> {
+    type Place = ();
+
+    fn begin_folder(&mut self, _name: &str) -> Result<(NoFiles, ()), FolderFault> {
         self.failed += 1;
         Err(FolderFault::Failed)
     }
 
-    fn finish_folder(&mut self, folder: NoFiles) -> Result<(), OutputFault> {
+    fn finish_folder(&mut self, folder: NoFiles, _place: ()) -> Result<(), OutputFault> {
         drop(folder);
         self.failed += 1;
         Err(OutputFault::Failed)

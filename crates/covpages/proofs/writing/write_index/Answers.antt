@@ -25,7 +25,7 @@ returns-then-entries-gt-MOST_LISTED-clause-index g c =
     ∙ same_directories (map indexed_file_data c.in_ok-files.files.items) entries c.in_ok-files.ensures.same in
     let number : length c.args.entries.now ≡ length entries = sym (length-map c.args.entries.now entry_data) in
     let files : directory_files options.title options.date totals (length c.args.entries.now) (map directory_data c.as_slice-then-entries-gt-MOST_LISTED.result.now)
-        ≡ index_files options.title options.date totals entries =
+    ≡ index_files options.title options.date totals entries =
     ap₂ (λ (n : ℕ) (ds : List DirectoryData). directory_files options.title options.date totals n ds) number made
     ∙ many_listed options.title options.date totals entries (omega (arith, number, c.if-entries-gt-MOST_LISTED.true)) in
     subst (λ (l : List (List ℕ × List ℕ)). OnOk c.write_directories.result (AreFinished l (g.D.OutputFolder.finished c.args.report.now) (g.D.OutputFolder.finished c.write_directories.new.report)))
@@ -42,7 +42,7 @@ returns-then-entries-gt-MOST_LISTED-clause-named g c =
     ∙ same_directories (map indexed_file_data c.in_ok-files.files.items) entries c.in_ok-files.ensures.same in
     let number : length c.args.entries.now ≡ length entries = sym (length-map c.args.entries.now entry_data) in
     let files : directory_files options.title options.date totals (length c.args.entries.now) (map directory_data c.as_slice-then-entries-gt-MOST_LISTED.result.now)
-        ≡ index_files options.title options.date totals entries =
+    ≡ index_files options.title options.date totals entries =
     ap₂ (λ (n : ℕ) (ds : List DirectoryData). directory_files options.title options.date totals n ds) number made
     ∙ many_listed options.title options.date totals entries (omega (arith, number, c.if-entries-gt-MOST_LISTED.true)) in
     subst (λ (l : List (List ℕ × List ℕ)). OnOk c.write_directories.result (AreAdded l (g.D.OutputFolder.names c.args.report.now) (g.D.OutputFolder.names c.write_directories.new.report)))

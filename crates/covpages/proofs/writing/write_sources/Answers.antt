@@ -1,11 +1,9 @@
-use Rattle.std.proofs.Common.{◌≡◌, ◌+◌, ◌++◌, [], ◌∷◌, refl, take, map, sym, ap, ◌∙◌, subst}
-use Rattle.std.proofs.lemmas.List.{map-append, take_more}
+use Rattle.std.proofs.Common.{◌+◌, get_or, refl, take, map, sym, ap, ◌∙◌, subst}
 use Rattle.covlist.proofs.Files.{AreAllTotals, all_totals}
-use Rattle.covpages.specs.View.{entry_data, progress_data, work_data}
-use Rattle.covpages.proofs.Folders.{bounds_at}
+use Rattle.covpages.specs.View.{entry_data, work_data}
+use Rattle.covpages.proofs.Folders.{bounds_at, more_at}
 use Rattle.covpages.proofs.Progress.{goes_on, none_so_far, passes_on}
 use Rattle.covtable.specs.ValuesView.{file_totals_data}
-use Rattle.covtable.specs.declared.totals.FileTotals.{FileTotals}
 use Rattle.covworld.specs.Folder.{folder_data}
 use Rattle.covpages.proofs.writing.write_sources.Goals as goal
 
@@ -22,21 +20,17 @@ pub write_source-requires-clause-bounds : goal.write_source-requires-clause-boun
 write_source-requires-clause-bounds g c =
     bounds_at file_totals_data c.args.files.now
     (subst AreAllTotals (sym c.requires.files) (all_totals (g.T.Table.shown c.args.work.now.table.now).sections))
-    c.loop-file.file-index c.loop-file-test.true c.file-item.result c.file-item.is
+    c.loop-file.file-index _ c.loop-file-test.true
 
-pub loop-file-preserved-then-takes : goal.loop-file-preserved-then-takes
-loop-file-preserved-then-takes g c =
+pub loop-file-preserved-then-not-takes : goal.loop-file-preserved-then-not-takes
+loop-file-preserved-then-not-takes g c =
     let files = c.args.files.now in
     let i = c.loop-file.file-index in
-    let file = c.file-item.result in
-    let more : map file_totals_data (take (i + 1) files) ≡ map file_totals_data (take i files) ++ file_totals_data file ∷ [] =
-    ap (map file_totals_data) (take_more files i file c.loop-file-test.true ∙ ap (λ (f : FileTotals). take i files ++ f ∷ []) (sym c.file-item.is))
-    ∙ map-append file_totals_data (take i files) (file ∷ []) in
     record {
       so_far =
           passes_on (work_data (folder_data g.F.Folder g.F.File.Source c.args.work.now.sources.now) c.args.work.now) (g.T.Table.shown c.args.work.now.table.now).sections
-          (map file_totals_data (take i files)) (map file_totals_data (take (i + 1) files)) (file_totals_data file) more _ _ _ c.loop-file.invariant.so_far
-          (sym c.takes.ensures ∙ c.if-takes.true);
+          (map file_totals_data (take i files)) (map file_totals_data (take (i + 1) files)) (file_totals_data (get_or files i _)) (more_at file_totals_data files i _ c.loop-file-test.true)
+          _ _ _ c.loop-file.invariant.so_far (sym c.takes.ensures ∙ c.if-not-takes.true);
       none = c.loop-file.invariant.none;
       good = c.loop-file.invariant.good;
     }
@@ -45,15 +39,11 @@ pub loop-file-preserved : goal.loop-file-preserved
 loop-file-preserved g c =
     let files = c.args.files.now in
     let i = c.loop-file.file-index in
-    let file = c.file-item.result in
-    let more : map file_totals_data (take (i + 1) files) ≡ map file_totals_data (take i files) ++ file_totals_data file ∷ [] =
-    ap (map file_totals_data) (take_more files i file c.loop-file-test.true ∙ ap (λ (f : FileTotals). take i files ++ f ∷ []) (sym c.file-item.is))
-    ∙ map-append file_totals_data (take i files) (file ∷ []) in
     record {
       so_far =
           goes_on (work_data (folder_data g.F.Folder g.F.File.Source c.args.work.now.sources.now) c.args.work.now) (g.T.Table.shown c.args.work.now.table.now).sections
-          (map file_totals_data (take i files)) (map file_totals_data (take (i + 1) files)) (file_totals_data file) more _ _ _ c.loop-file.invariant.so_far
-          _ _ (sym c.takes.ensures ∙ c.if-takes.false) c.in_ok-write_source.ensures.next;
+          (map file_totals_data (take i files)) (map file_totals_data (take (i + 1) files)) (file_totals_data (get_or files i _)) (more_at file_totals_data files i _ c.loop-file-test.true)
+          _ _ _ c.loop-file.invariant.so_far _ _ (sym c.takes.ensures ∙ c.if-not-takes.false) c.in_ok-write_source.ensures.next;
       none = c.in_ok-write_source.ensures.none;
       good = c.in_ok-write_source.ensures.good ∙ c.loop-file.invariant.good;
     }
