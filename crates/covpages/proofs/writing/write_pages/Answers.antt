@@ -16,8 +16,8 @@ returns-in_ok-finish_folder-in-Ok-clause-written g c =
     (output_files (g.P.OutputFolder.finished begun) (g.P.OutputFolder.names begun) (g.P.OutputFolder.begun begun) (g.P.OutputFolder.failed begun)) _ _ _ _
     c.in-Ok.ensures.written c.in_ok-report.ensures.empty c.in_ok-report.ensures.no_names c.in_ok-report.ensures.same c.in_ok-report.ensures.unnamed
     (subst (λ (name : List ℕ). FinishesFolder name (g.P.NewFolder.OutputFolder.finished full) (g.P.OutputFolder.finished begun) (g.P.OutputFolder.finished after)) named
-    c.in_ok-finish_folder.ensures.finished)
+    c.in_ok-finish_folder-in-Ok.ensures.finished)
     (subst (λ (name : List ℕ). AddsFolder name (g.P.NewFolder.OutputFolder.names full) (g.P.OutputFolder.names begun) (g.P.OutputFolder.names after)) named
-    c.in_ok-finish_folder.ensures.named)
-    (c.in_ok-finish_folder.ensures.begun ∙ c.in_ok-report.ensures.begun)
-    (c.in_ok-finish_folder.ensures.good ∙ c.in_ok-report.ensures.good)
+    c.in_ok-finish_folder-in-Ok.ensures.named)
+    (c.in_ok-finish_folder-in-Ok.ensures.begun ∙ c.in_ok-report.ensures.begun)
+    (c.in_ok-finish_folder-in-Ok.ensures.good ∙ c.in_ok-report.ensures.good)
