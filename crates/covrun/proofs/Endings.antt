@@ -154,7 +154,7 @@ table_stays entries op asks =
     ap table_of (map-append (λ (e : EntryData). e.op) entries (next_entry entries 0 op ∷ [])) ∙ tables_append [] (ops_in entries) op ∙ text_leaves (table_of (ops_in entries)) op asks
 
 -- the sections of the table are the same after the last operation
-sections_stay : (entries : List EntryData) (op : OpData) → IsText op → (sections : List SectionData) → sections ≡ content_at (table_of (ops_in entries))
+pub sections_stay : (entries : List EntryData) (op : OpData) → IsText op → (sections : List SectionData) → sections ≡ content_at (table_of (ops_in entries))
     → sections ≡ content_at (table_of (ops_in (entries ++ next_entry entries 0 op ∷ [])))
 sections_stay entries op asks sections are = are ∙ ap content_at (sym (table_stays entries op asks))
 

@@ -5,3 +5,5 @@ pub mod Endings
 pub mod Patterns
 pub mod Places
 pub mod Reading
+pub mod Showing
+pub mod Rules

@@ -15,3 +15,4 @@ pub mod View
 pub mod WorkFault
 pub mod Files
 pub mod Checked
+pub mod Told

@@ -116,7 +116,7 @@ pub(crate) fn report_failure<P: OutputFolder, I: Source, O: Sink, E: Sink>(
 }
 
 /// Writes to the error stream why a run has no answer, and returns the exit status.
-fn say_failure<O: Sink, E: Sink>(failure: Failure, sinks: &mut Sinks<O, E>) -> u8
+pub(crate) fn say_failure<O: Sink, E: Sink>(failure: Failure, sinks: &mut Sinks<O, E>) -> u8
     requires { sinks.old.failed_faults < 2 ^ 62 }
     ensures { IsEndingPrinted (failure_data failure) result sinks.old sinks.new }
 {

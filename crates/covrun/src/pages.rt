@@ -1,10 +1,17 @@
 //! Does the work of `html`: collects its files, and writes the pages.
 
-ghost use Rattle.std.specs.Prelude.{◌≡◌};
+ghost use Rattle.std.specs.Prelude.{◌≡◌, ◌<◌, ◌⊎◌, ◌^◌, ◌++◌, ◌∷◌, [], ℕ, List, IfErr, IfOk};
+ghost use Rattle.covbook.specs.Step.{next_entry};
+ghost use Rattle.covpages.specs.declared.fault.PagesFault.{PagesFault as PagesFaultData};
+ghost use Rattle.covpages.specs.declared.fault.PagesFault.TheVariants as pages_faults;
 ghost use Rattle.covreport.specs.ChoiceView.{choice_data};
 ghost use Rattle.covrun.specs.Call.{IsShown, PagesEnd, pages_work};
-ghost use Rattle.covrun.specs.View.{question_data, work_data};
-ghost use Rattle.covrun.specs.Work.{AsksList, choice_asked};
+ghost use Rattle.covrun.specs.Ending.{Prints, Stopped, of_collected};
+ghost use Rattle.covrun.specs.Told.{IsFaultTold, IsFolderTold};
+ghost use Rattle.covrun.specs.View.{failure_data, question_data, work_data};
+ghost use Rattle.covrun.specs.Work.{AsksList, choice_asked, last_of};
+ghost use Rattle.covrun.specs.declared.naming.Naming.TheVariants as namings;
+ghost use Rattle.covsession.specs.declared.session.fault.SessionFault.TheVariants as session_faults;
 ghost use Rattle.covworld.specs.Folder.{folder_data};
 ghost use Rattle.covworld.specs.World.{CanCall};
 
@@ -13,7 +20,7 @@ use crate::ending::{Failure, failure_of_collect};
 use crate::file_input::file_inputs;
 use crate::messages::{CANT_WRITE, FOREIGN};
 use crate::naming::Naming;
-use crate::output::{complain, report_failure};
+use crate::output::{complain, report_failure, say_failure};
 use crate::question::Question;
 use crate::text_fault::TextFault;
 use crate::work::Work;
@@ -26,7 +33,7 @@ use covreport::{Choice, Table};
 use covsession::SessionFault;
 use covstream::{Sink, Source};
 use covworkers::{CollectedBook, IntoBookFault, NoGate, collect_into_book};
-use covworld::{Folder, FolderWriter, OutputFolder, World};
+use covworld::{Folder, FolderWriter, Sinks, World};
 use std::alloc::Global;
 use std::sync::Wait;
 use std::thread::Threads;
@@ -77,6 +84,11 @@ fn judge<T: Table<Global>>(
     collected: &CollectedBook<T, TextFault>,
 ) -> Result<(), Failure>
     requires { AsksList (question_data work.now.asks) }
+    ensures prints { IfOk result (λ _. (text : List ℕ) × (of_collected namings.Shown work.now.files work.now.strictness (question_data work.now.asks)
+        (collected.now.book.entries ++ next_entry collected.now.book.entries 0 (last_of (question_data work.now.asks)) ∷ []) collected.now.refused ≡ Prints text)) }
+    ensures failure { IfErr result (λ failure. (failure_data failure ≡ Stopped session_faults.Memory)
+        ⊎ (failure_data failure ≡ of_collected namings.Shown work.now.files work.now.strictness (question_data work.now.asks)
+        (collected.now.book.entries ++ next_entry collected.now.book.entries 0 (last_of (question_data work.now.asks)) ∷ []) collected.now.refused)) }
 {
     answer_of(
         alloc,
@@ -101,6 +113,7 @@ fn show<F: Folder, P: FolderWriter, I: Source, O: Sink, E: Sink, T: PointsTable<
     requires list { AsksList (question_data work.now.asks) }
     requires can { CanCall world.old }
     ensures input { world.new.input ≡ world.old.input }
+    ensures begun { world.new.files.begun ≡ world.old.files.begun }
     ensures end { PagesEnd (pages_work (folder_data F.Folder F.File.Source folder.now) (work_data work.now) pages.now)
         (T.shown table.now).sections result world.old world.new }
 {
@@ -114,7 +127,7 @@ fn show<F: Folder, P: FolderWriter, I: Source, O: Sink, E: Sink, T: PointsTable<
     };
     match write_pages(&shown, &mut world.files) {
         Ok(warnings) => complain(b"", warnings.get(), 0, &mut world.sinks),
-        Err(fault) => report_fault(alloc, pages.folder.as_str(), fault, world),
+        Err(fault) => report_fault(alloc, pages.folder.as_str(), fault, &mut world.sinks),
     }
 }
 
@@ -130,38 +143,36 @@ fn shown_files(asks: &Question) -> &Choice
 }
 
 /// Reports why the pages weren't written into the folder called `name`, and returns the exit status.
-fn report_fault<P: OutputFolder, I: Source, O: Sink, E: Sink>(
+fn report_fault<O: Sink, E: Sink>(
     alloc: Global,
     name: &str,
     fault: PagesFault,
-    world: &mut World<P, I, O, E>,
+    sinks: &mut Sinks<O, E>,
 ) -> u8
-    requires { CanCall world.old }
-    ensures input { world.new.input ≡ world.old.input }
-    ensures files { world.new.files ≡ world.old.files }
+    requires { sinks.old.failed_faults < 2 ^ 62 }
+    ensures { (told : PagesFaultData) × ((told ≡ fault) ⊎ (told ≡ pages_faults.Memory)) × IsFaultTold name.now told result sinks.old sinks.new }
 {
     match fault {
-        PagesFault::Foreign => report_folder(alloc, name, FOREIGN, world),
-        PagesFault::Unwritten => report_folder(alloc, name, CANT_WRITE, world),
-        PagesFault::Refused(lines) => report_failure(Failure::Unclean(lines), world),
-        PagesFault::Memory => report_failure(Failure::Stopped(SessionFault::Memory), world),
+        PagesFault::Foreign => report_folder(alloc, name, FOREIGN, sinks),
+        PagesFault::Unwritten => report_folder(alloc, name, CANT_WRITE, sinks),
+        PagesFault::Refused(lines) => say_failure(Failure::Unclean(lines), sinks),
+        PagesFault::Memory => say_failure(Failure::Stopped(SessionFault::Memory), sinks),
     }
 }
 
 /// Reports these words of the folder called `name`, and returns the exit status.
-fn report_folder<P: OutputFolder, I: Source, O: Sink, E: Sink>(
+fn report_folder<O: Sink, E: Sink>(
     alloc: Global,
     name: &str,
     words: &[u8],
-    world: &mut World<P, I, O, E>,
+    sinks: &mut Sinks<O, E>,
 ) -> u8
-    requires { CanCall world.old }
-    ensures input { world.new.input ≡ world.old.input }
-    ensures files { world.new.files ≡ world.old.files }
+    requires { sinks.old.failed_faults < 2 ^ 62 }
+    ensures { IsFolderTold name.now words.now result sinks.old sinks.new ⊎ IsFaultTold name.now pages_faults.Memory result sinks.old sinks.new }
 {
     let mut told = Bytes::new(alloc);
     match put_shown_name(name.as_bytes(), &mut told) {
-        Ok(()) => complain(told.get(), words, 1, &mut world.sinks),
-        Err(_) => report_failure(Failure::Stopped(SessionFault::Memory), world),
+        Ok(()) => complain(told.get(), words, 1, sinks),
+        Err(_) => say_failure(Failure::Stopped(SessionFault::Memory), sinks),
     }
 }

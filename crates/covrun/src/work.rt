@@ -123,9 +123,10 @@ impl From<PatternFault> for WorkFault {
     }
 }
 
-ghost use Rattle.std.specs.Prelude.{◌≡◌, map, option_map, take, drop, IfOk, IfErr};
+ghost use Rattle.std.specs.Prelude.{◌≡◌, map, option_map, take, drop, is_some, IfOk, IfErr};
 ghost use Rattle.std.specs.String.{string_bytes};
 ghost use Rattle.covdata.specs.Lawful.{IsGoodTest};
+ghost use Rattle.covpages.specs.Sources.{rule_of};
 ghost use Rattle.covreport.specs.ChoiceView.{choice_data};
 ghost use Rattle.covrun.specs.View.{question_data, task_data};
 ghost use Rattle.covlimit.specs.LimitsView.{limits_data};
@@ -367,11 +368,18 @@ fn check_rules(words: &[String]) -> Result<(), WorkFault>
     ensures refused { IfErr result (IsRuleRefusal (map string_bytes words.now)) }
 {
     for word in words {
-        if SourceRule::of(word.as_str()).is_none() {
+        if !is_rule(word.as_str()) {
             return Err(WorkFault::Words(ArgumentFault::BadSource));
         }
     }
     Ok(())
+}
+
+/// Whether `word` is a rule for where source files lie.
+fn is_rule(word: &str) -> bool
+    ensures { result ≡ is_some (rule_of word.now) }
+{
+    SourceRule::of(word).is_some()
 }
 
 /// Checks that a test may have the name `test`.

@@ -3,7 +3,7 @@ use Rattle.std.specs.String.{string_bytes}
 use Rattle.covworld.specs.Folder.{folder_data}
 use Rattle.covworld.specs.OutputFiles.{file_of}
 use Rattle.covrun.specs.View.{task_data, work_data, failure_data}
-use Rattle.covrun.proofs.Endings.{asks_text, stops_early, told_check, told_combine, told_session, told_work}
+use Rattle.covrun.proofs.Endings.{asks_list, asks_text, stops_early, told_check, told_combine, told_pages, told_session, told_work}
 use Rattle.covrun.proofs.program.run_command.Goals as goal
 
 pub do_work-requires-clause-text : goal.do_work-requires-clause-text
