@@ -19,9 +19,10 @@ use Rattle.covtable.specs.Content.{SectionData, content_at}
 use Rattle.covworkers.specs.Collect.{IsCollectedWith, OutcomeData}
 use Rattle.covworkers.specs.declared.refused.RefusedInput.{RefusedInput}
 use Rattle.covworld.specs.Folder.{FolderData}
+use Rattle.covworld.specs.OutputFiles.{OutputFilesData}
 use Rattle.covworld.specs.Streams.{SinksData, Complains, Withholds}
 use Rattle.covworld.specs.World.{WorldData}
-use Rattle.covrun.specs.Call.{AreTextsIn, IsEndingPrinted, IsEndingReported, IsFailure, IsShown, PagesEnd, WorkEnds, pages_work}
+use Rattle.covrun.specs.Call.{AreTextsIn, IsEndingPrinted, IsEndingReported, IsFailure, IsShown, PagesEnd, WorkEnds, pages_complaint, pages_status, pages_work}
 use Rattle.covrun.specs.Ending.{EndingData, Prints, FallsShort, BadLine, BadWords, Unreadable, Stopped, Ungathered, Refuses, IsUnclean, asked_text, complaints, of_collected, ran_out, strict_lines, unless_any, with_shortfalls}
 use Rattle.covrun.specs.Naming.{naming_asked, naming_for, naming_of, naming_read}
 use Rattle.covrun.specs.Told.{IsFaultTold, IsFolderTold}
@@ -145,17 +146,24 @@ pages_shown folder work pages list files named outcome count entries refused sec
       subst (λ (s : List SectionData). PagesEnd (pages_work folder work pages) s status old new) (sections_stay entries (last_of work.asks) asks sections stands) end,
     )
 
+-- how the writing of pages ends, by the files and the streams before and after
+abbrev EndsSo : PagesWorkData → List SectionData → (status : ℕ) → OutputFilesData → OutputFilesData → SinksData → SinksData → Type 0
+EndsSo work sections status old_files new_files old new =
+    ((warnings : List ℕ) × (status ≡ 0) × ArePagesWritten work sections old_files new_files warnings × Withholds old new × Complains warnings old new)
+    ⊎ ((fault : PagesFault) × IsPagesFault work sections fault × (status ≡ pages_status fault) × (new_files.finished ≡ old_files.finished) × (new_files.names ≡ old_files.names)
+    × Withholds old new × Complains (pages_complaint work.folder fault) old new)
+
 -- pages of these source files were written, and warnings are told
-pub pages_written : (work : PagesWorkData) (choice : ChoiceData) → choice ≡ work.choice → (sections : List SectionData) (status : ℕ) (old new : WorldData) (warnings told : List ℕ) → told ≡ warnings → status ≡ 0
-    → ArePagesWritten (record work { choice = choice }) sections old.files new.files warnings → Withholds old.sinks new.sinks → Complains told old.sinks new.sinks
-    → PagesEnd work sections status old new
-pages_written work choice same sections status old new warnings told are is written withheld said =
+pub pages_written : (work : PagesWorkData) (choice : ChoiceData) → choice ≡ work.choice → (sections : List SectionData) (status : ℕ) (old_files new_files : OutputFilesData) (old new : SinksData) (warnings told : List ℕ) → told ≡ warnings → status ≡ 0
+    → ArePagesWritten (record work { choice = choice }) sections old_files new_files warnings → Withholds old new → Complains told old new
+    → EndsSo work sections status old_files new_files old new
+pages_written work choice same sections status old_files new_files old new warnings told are is written withheld said =
     inl (
       warnings,
       is,
-      subst (λ (c : ChoiceData). ArePagesWritten (record work { choice = c }) sections old.files new.files warnings) same written,
+      subst (λ (c : ChoiceData). ArePagesWritten (record work { choice = c }) sections old_files new_files warnings) same written,
       withheld,
-      subst (λ (ws : List ℕ). Complains ws old.sinks new.sinks) are said,
+      subst (λ (ws : List ℕ). Complains ws old new) are said,
     )
 
 fault_of_told : (work : PagesWorkData) (sections : List SectionData) (fault told : PagesFault) → (told ≡ fault) ⊎ (told ≡ pages_faults.Memory)
@@ -164,12 +172,12 @@ fault_of_told work sections fault told (inl is) comes = subst (λ (f : PagesFaul
 fault_of_told work sections fault told (inr is) comes = subst (λ (f : PagesFault). IsPagesFault work sections f) (sym is) tt
 
 -- pages weren't written, and that is told, or that memory ran out
-pub pages_unwritten : (work : PagesWorkData) (choice : ChoiceData) → choice ≡ work.choice → (sections : List SectionData) (status : ℕ) (old new : WorldData) (fault : PagesFault) (folder : List ℕ) → folder ≡ work.folder
-    → IsPagesFault (record work { choice = choice }) sections fault → new.files.finished ≡ old.files.finished → new.files.names ≡ old.files.names
-    → (told : PagesFault) × ((told ≡ fault) ⊎ (told ≡ pages_faults.Memory)) × IsFaultTold folder told status old.sinks new.sinks
-    → PagesEnd work sections status old new
-pages_unwritten work choice same sections status old new fault folder named comes finished names (told, is, reported) =
-    let here = subst (λ (name : List ℕ). IsFaultTold name told status old.sinks new.sinks) named reported in
+pub pages_unwritten : (work : PagesWorkData) (choice : ChoiceData) → choice ≡ work.choice → (sections : List SectionData) (status : ℕ) (old_files new_files : OutputFilesData) (old new : SinksData) (fault : PagesFault) (folder : List ℕ) → folder ≡ work.folder
+    → IsPagesFault (record work { choice = choice }) sections fault → new_files.finished ≡ old_files.finished → new_files.names ≡ old_files.names
+    → (told : PagesFault) × ((told ≡ fault) ⊎ (told ≡ pages_faults.Memory)) × IsFaultTold folder told status old new
+    → EndsSo work sections status old_files new_files old new
+pages_unwritten work choice same sections status old_files new_files old new fault folder named comes finished names (told, is, reported) =
+    let here = subst (λ (name : List ℕ). IsFaultTold name told status old new) named reported in
     inr (
       told,
       fault_of_told work sections fault told is (subst (λ (c : ChoiceData). IsPagesFault (record work { choice = c }) sections fault) same comes),

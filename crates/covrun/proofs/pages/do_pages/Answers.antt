@@ -1,4 +1,4 @@
-use Rattle.std.proofs.Common.{Err, map, slice_get, refl, inl, ap, sym, subst, ◌∙◌}
+use Rattle.std.proofs.Common.{Err, None, map, slice_get, refl, inl, ap, sym, subst, ◌∙◌}
 use Rattle.std.specs.String.{string_bytes}
 use Rattle.covtable.specs.Shown.{ShownData}
 use Rattle.covworkers.specs.Late.{MayComeAtAll}
@@ -40,7 +40,7 @@ returns-in-Ok-collect_into_book g c =
     (folder_data g.F.Folder g.F.File.Source)
     _ collected.0 (c.in-Ok.ensures.names ∙ c.get-names.ensures) c.in-Ok.ensures.own collected.1 in
     pages_failed (folder_data g.F.Folder g.F.File.Source c.args.folder.now) (work_data c.args.work.now) c.args.pages.now c.in-Err.failure _ _ _
-    (ends_collected (folder_data g.F.Folder g.F.File.Source c.args.folder.now) _
+    (ends_collected (folder_data g.F.Folder g.F.File.Source c.args.folder.now) None
     (work_data c.args.work.now) _ (sym (list_shows (work_data c.args.work.now) c.requires.list)) _ refl collected.0 _ _ _ _ read.0 read.1
     (list_is_text (question_data c.args.work.now.asks) c.requires.list) collected.2 c.in-Err.ensures.failure)
     c.report_failure-in-Err.ensures
@@ -48,7 +48,7 @@ returns-in-Ok-collect_into_book g c =
 pub returns-in-Err-Unread : goal.returns-in-Err-Unread
 returns-in-Err-Unread g c =
     pages_failed (folder_data g.F.Folder g.F.File.Source c.args.folder.now) (work_data c.args.work.now) c.args.pages.now c.unreadable.result _ _ _
-    (ends_unreadable (folder_data g.F.Folder g.F.File.Source c.args.folder.now) _
+    (ends_unreadable (folder_data g.F.Folder g.F.File.Source c.args.folder.now) None
     (work_data c.args.work.now) _ c.get-names.ensures _ _
     (unreadable_read c.in-Ok.inputs.items c.args.folder.now g.F.File.Source.left g.F.File.Source.failed_reads
     (record { own = λ one. one.folder.now; name = λ one. one.name.now; format = λ one. one.format.now; strictness = λ one. one.strictness; opened = λ one. one.opened })
@@ -67,7 +67,7 @@ failure_of_collect-requires g c =
 pub returns : goal.returns
 returns g c =
     pages_failed (folder_data g.F.Folder g.F.File.Source c.args.folder.now) (work_data c.args.work.now) c.args.pages.now c.failure_of_collect.result _ _ _
-    (ends_uncollected (folder_data g.F.Folder g.F.File.Source c.args.folder.now) _
+    (ends_uncollected (folder_data g.F.Folder g.F.File.Source c.args.folder.now) None
     (work_data c.args.work.now) _ _ (λ is. (c.in-Err-Collect.ensures.bad).0 (ap (λ fault. Err fault) (c.in-Err-Collect.field-0-is ∙ ap (λ fault. into_book.Collect fault) is)))
     (may_come c.in-Ok.inputs.items c.args.folder.now g.F.File.Source.left g.F.File.Source.failed_reads
     (record { own = λ one. one.folder.now; name = λ one. one.name.now; format = λ one. one.format.now; strictness = λ one. one.strictness; opened = λ one. one.opened })

@@ -13,7 +13,8 @@ answer_of-requires g c = list_is_text (question_data c.args.work.now.asks) c.req
 
 pub returns-clause-prints : goal.returns-clause-prints
 returns-clause-prints g c =
-    list_answered Shown c.args.work.now.files c.args.work.now.strictness (question_data c.args.work.now.asks) _ _ _ _ c.requires
+    list_answered Shown c.args.work.now.files c.args.work.now.strictness (question_data c.args.work.now.asks)
+    (c.args.collected.now.book.entries ++ next_entry c.args.collected.now.book.entries 0 (last_of (question_data c.args.work.now.asks)) ∷ []) c.args.collected.now.refused _ _ c.requires
     (c.in_ok-answer_of.ensures.answer
     ∙ ap (λ (files : List (List ℕ)). of_collected Shown files c.args.work.now.strictness (question_data c.args.work.now.asks)
     (c.args.collected.now.book.entries ++ next_entry c.args.collected.now.book.entries 0 (last_of (question_data c.args.work.now.asks)) ∷ []) c.args.collected.now.refused) c.get.ensures)

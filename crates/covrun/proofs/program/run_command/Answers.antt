@@ -43,7 +43,7 @@ returns-in-Ok-Combine g c =
     )
 
 pub do_pages-requires-clause-list : goal.do_pages-requires-clause-list
-do_pages-requires-clause-list g c =
+do_pages-requires-clause-list g c κs within =
     asks_list c.args.asked.command c.args.asked.strictness c.args.asked.size (work_data c.in-Ok-Show.work) c.in-Ok-Show.pages (ap task_data (sym c.in-Ok-Show.field-0-is) ∙ c.in-Ok-Show.ensures.task)
 
 pub returns-in-Ok-Show : goal.returns-in-Ok-Show
