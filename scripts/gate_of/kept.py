@@ -2,7 +2,8 @@
 
 A sum is of the kit, HANDLES, the crate's text, its line of crates.txt, and every file of every library below it as built. So a change begins the crate
 anew, and a crate above it only if the library came out with other bytes. An entry has the library, the program or the tests that rt built, with their
-sums, which are compared as it is taken. It is written under another name and then renamed. One that no run used for 10 days is removed.
+sums, which are compared as it is taken. It is written under another name and then renamed. The four entries that were used last are kept of each crate, and
+four of its tests, for 10 days each: some 3 GB for one state of all crates.
 """
 import contextlib
 import json
@@ -10,11 +11,12 @@ import os
 import shutil
 import tempfile
 import time
+from collections import Counter
 
 from edits_of.kept import sum_of_library
 from edits_of.kit import own_sum, sum_of, sum_of_file
 
-DAYS = 10
+DAYS, MOST = 10, 4
 # Beside what was built, an entry has this file of sums.
 SUMS = "sums"
 
@@ -57,21 +59,23 @@ class Proofs:
         """Returns `prove` for crates without an entry."""
 
         def kept_or_proved(crate, flags, tests):
-            name = self.sum_of(crate, tests)
+            name = self.name_of(crate, tests)
             if self.take(name, crate, tests):
                 self.rt.say(f"{crate.name}: nothing that it rests on has changed since it passed", crate.out)
                 return 0
             status = prove(crate, flags, tests)
-            if not status and self.sum_of(crate, tests) == name:
+            if not status and self.name_of(crate, tests) == name:
                 self.write(name, crate, tests)
             return status
 
         return kept_or_proved
 
-    def sum_of(self, crate, tests):
+    def name_of(self, crate, tests):
+        """The entry's name: the crate's, and the sum of all that its proof rests on."""
         # The sum that serves for edits leaves comments out; what is built of the sources may hold them.
         texts = [(os.path.relpath(it, crate.folder), sum_of_file(it)) for it in sorted(self.rt.rtlib.files_of(crate.folder))]
-        return sum_of(tests, own_sum(self.rt, crate), texts, [(it.name, sum_of_library(it.rlib)) for it in crate.below()])
+        rests_on = sum_of(tests, own_sum(self.rt, crate), texts, [(it.name, sum_of_library(it.rlib)) for it in crate.below()])
+        return f"{crate.name}{'-tests' if tests else ''}.{rests_on}"
 
     def take(self, name, crate, tests):
         """Puts what an entry has where rt would have built it, and returns whether there was an entry."""
@@ -104,9 +108,11 @@ class Proofs:
             os.rename(made, f"{self.folder}/{name}")
 
     def remove_old(self):
-        """Removes what no run used for long, and what a run left that was killed."""
-        oldest = time.time() - DAYS * 24 * 3600
-        for it in os.listdir(self.folder):
-            with contextlib.suppress(OSError):
-                if os.stat(f"{self.folder}/{it}").st_mtime < oldest:
-                    remove(f"{self.folder}/{it}")
+        """Removes what no run used for long, what is too much of one crate, and what a run left that was killed."""
+        oldest, seen = time.time() - DAYS * 24 * 3600, Counter()
+        with contextlib.suppress(OSError):
+            for it in sorted(os.scandir(self.folder), key=lambda it: -it.stat().st_mtime):
+                of = it.name.partition(".")[0]
+                seen[of] += 1
+                if seen[of] > MOST or it.stat().st_mtime < oldest:
+                    remove(it.path)
