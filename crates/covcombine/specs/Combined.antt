@@ -43,9 +43,9 @@ of_collecting collects.NotLast = Fails 3 (said (codes "gather"))
 abbrev pub Ends : FolderData → (jobs : ℕ) → CombineData → EndingData → Type 0
 Ends folder jobs work ending =
     (ending ≡ out_of_memory)
-    ⊎ (((fault : CollectFault) × (fault ≡ collects.BadJobs → AreJobs jobs → ⊥) × MayCome (FillHistory (IsOfFile folder work.strictness) work.files) fault × (ending ≡ of_collecting fault))
+    ⊎ (((fault : CollectFault) × (fault ≡ collects.BadJobs → AreJobs jobs → ⊥) × MayCome (FillHistory (IsOfFile folder work.new work.strictness) work.files) fault × (ending ≡ of_collecting fault))
     ⊎ ((entries : List EntryData) × (notes : List (RefusedInput Note))
-    × IsCollectedSoFar (IsOfFile folder work.strictness) work.files jobs entries notes × (ending ≡ end_of work entries notes)))
+    × IsCollectedSoFar (IsOfFile folder work.new work.strictness) work.files jobs entries notes × (ending ≡ end_of work entries notes)))
 
 -- ---- where texts and lines go
 

@@ -1,5 +1,5 @@
 -- What the options of a call ask for, and which of them don't do.
-use Rattle.std.specs.Prelude.{◌≡◌, ◌<◌, ◌≤◌, ℕ, List, [], ◌∷◌, ◌++◌, length, Option, None, Some, Contains}
+use Rattle.std.specs.Prelude.{◌≡◌, ◌<◌, ◌≤◌, ℕ, List, [], ◌∷◌, ◌++◌, length, map, Option, None, Some, Contains}
 use Rattle.covcommand.specs.declared.asked.CombineOptions.{CombineOptions}
 use Rattle.covcommand.specs.declared.asked.Limits.{Limits}
 use Rattle.covcommand.specs.declared.asked.Overview.{Overview}
@@ -10,16 +10,19 @@ use Rattle.covcommand.specs.declared.asked.TotalsForm.{TotalsForm}
 use Rattle.covcommand.specs.declared.asked.TotalsForm.TheVariants.{Json}
 use Rattle.covlimit.specs.Limits.{LimitsData}
 use Rattle.covlimit.specs.Rates.{IsRate}
+use Rattle.covpaths.specs.Names.{AreGoodNames, NamesData}
+use Rattle.covpaths.specs.Paths.{IsRuleFault, RuleData, rule_of}
 use Rattle.covreport.specs.Choice.{ChoiceData, AllFiles, Filtered, max_pattern_bytes, max_patterns}
 use Rattle.covcombine.specs.declared.call_fault.CallFault.{CallFault}
-use Rattle.covcombine.specs.declared.call_fault.CallFault.TheVariants.{ManyPatterns, LongPattern, NoRate, NoRoom, NoName, Twice}
+use Rattle.covcombine.specs.declared.call_fault.CallFault.TheVariants.{ManyPatterns, LongPattern, NoRate, BadPath, NoRoom, NoName, Twice}
 use Rattle.covcombine.specs.declared.call_fault.CallOption.{CallOption}
 use Rattle.covcombine.specs.declared.call_fault.CallOption.TheVariants.{Include, Exclude, FailUnderLines, FailUnderFunctions, FailUnderBranches, List as ShowList, Json as PrintJson}
 
--- what a call has to do. `files`: the files to read. `choice`: the source files that are printed and counted. `overview` and `form`: what
+-- what a call has to do. `files`: the files to read. `new`: the names under which counts are added up. `choice`: the source files that are printed and counted. `overview` and `form`: what
 -- standard output has if the tracefile goes into a file. `expected`: how many files have to be read
 pub record CombineData : Type 0 where
   pub files : List (List ℕ)
+  pub new : NamesData
   pub strictness : Strictness
   pub choice : ChoiceData
   pub overview : Overview
@@ -55,6 +58,7 @@ abbrev pub IsCallFault : CombineOptions → (file : Option (List ℕ)) → CallF
 IsCallFault options file (ManyPatterns option) = max_patterns < length (patterns_in option options.filter)
 IsCallFault options file (LongPattern option) = (pattern : List ℕ) × Contains (patterns_in option options.filter) pattern × (max_pattern_bytes < length pattern)
 IsCallFault options file (NoRate option word) = (limit_in option options.limits ≡ Some word.now) × (IsRate word.now → ⊥)
+IsCallFault options file (BadPath fault word) = Contains options.paths word.now × IsRuleFault word.now fault
 IsCallFault options file (NoRoom option) = (file ≡ None) × AsksForOverview option options
 IsCallFault options file NoName = options.names ≡ []
 IsCallFault options file (Twice name) = IsTwice options.names name.now
@@ -69,10 +73,17 @@ choice_by includes excludes = Filtered includes excludes
 abbrev pub limits_of : Limits → LimitsData
 limits_of limits = record { lines = limits.lines; functions = limits.functions; branches = limits.branches }
 
+-- each word gives the rule for paths at the same index
+abbrev pub AreRulesOf : (words : List (List ℕ)) → List RuleData → Type 0
+AreRulesOf words rules = map rule_of words ≡ map Some rules
+
 -- the work that these options ask for, all of which do
 pub record IsWorkOf (options : CombineOptions) (strictness : Strictness) (file : Option (List ℕ)) (work : CombineData) : Type 0 where
   pub faultless : (fault : CallFault) → IsCallFault options file fault → ⊥
   pub files : work.files ≡ options.names
+  pub rules : AreRulesOf options.paths work.new.rules
+  pub test : work.new.test ≡ None
+  pub good : AreGoodNames work.new
   pub strict : work.strictness ≡ strictness
   pub choice : work.choice ≡ choice_by options.filter.includes options.filter.excludes
   pub overview : work.overview ≡ options.overview

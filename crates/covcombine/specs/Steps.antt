@@ -1,6 +1,6 @@
 -- Private steps: how a tracefile is read part by part, and what is refused before.
-use Rattle.std.specs.List.{AllByRecursion, sum_by}
-use Rattle.std.specs.Prelude.{◌≡◌, ◌⊎◌, ◌+◌, ◌<◌, ◌≤◌, ℕ, List, [], length, Option, None, Some, Result, Ok, Err, Contains}
+use Rattle.std.specs.List.{AllByRecursion, flat_map, sum_by}
+use Rattle.std.specs.Prelude.{◌≡◌, ◌⊎◌, ◌+◌, ◌<◌, ◌≤◌, ℕ, Bool, List, [], length, map, Option, None, Some, Result, Ok, Err, Contains}
 use Rattle.covcommand.specs.declared.asked.CombineOptions.{CombineOptions}
 use Rattle.covcommand.specs.declared.asked.Strictness.{Strictness}
 use Rattle.covcommand.specs.declared.asked.Strictness.TheVariants.{Lenient, Strict}
@@ -13,6 +13,8 @@ use Rattle.covlarge.specs.Summary.{SummaryData, told_number}
 use Rattle.covlarge.specs.declared.fault.PieceFault.{PieceFault}
 use Rattle.covlarge.specs.declared.fault.PieceFault.TheVariants as pieces
 use Rattle.covlimit.specs.Rates.{IsRate}
+use Rattle.covpaths.specs.Names.{NamesData, named, used_after}
+use Rattle.covpaths.specs.Paths.{IsRuleFault, RuleData}
 use Rattle.covreport.specs.Choice.{max_pattern_bytes, max_patterns}
 use Rattle.covreport.specs.declared.patterns.PatternFault.{PatternFault}
 use Rattle.covreport.specs.declared.patterns.PatternFault.TheVariants as patterns
@@ -25,7 +27,7 @@ use Rattle.covworkers.specs.declared.late_fault.LateFault.TheVariants as late
 use Rattle.covworld.specs.Folder.{FolderData}
 use Rattle.covcombine.specs.Notes.{IsOfFile, note_of}
 use Rattle.covcombine.specs.Options.{AsksForOverview, IsCallFault, IsTwice}
-use Rattle.covcombine.specs.declared.call_fault.CallFault.TheVariants.{ManyPatterns, LongPattern, NoRate, NoName, Twice}
+use Rattle.covcombine.specs.declared.call_fault.CallFault.TheVariants.{ManyPatterns, LongPattern, NoRate, BadPath, NoName, Twice}
 use Rattle.covcombine.specs.declared.call_fault.CallOption.{CallOption}
 use Rattle.covcombine.specs.declared.call_fault.WorkFault.{WorkFault}
 use Rattle.covcombine.specs.declared.call_fault.WorkFault.TheVariants as works
@@ -51,6 +53,10 @@ counts_with counts read = record {
   odd = told_number (counts.odd + sum_by (λ s. s.odd) read);
 }
 
+-- the rules that were applied, with those for further submissions
+abbrev pub used_with : List RuleData → (used : List Bool) → List SubmissionData → List Bool
+used_with rules used read = used_after rules used (flat_map (λ s. s.sects) read)
+
 -- how many lines of unknown keys are told with a tracefile's end
 abbrev pub unknown_told : Option SummaryData → ℕ
 unknown_told None = 0
@@ -64,29 +70,33 @@ IsToldFor Strict (Ok None) = ⊥
 IsToldFor Strict (Ok (Some held)) = Unit {0}
 IsToldFor strictness (Err fault) = Unit {0}
 
--- the note of a tracefile with these first bytes and these counts in all, and this end
-abbrev pub note_at : (first : List ℕ) → Counts → Result (Option SummaryData) ReadFault → Note
-note_at first counts (Ok told) = note_of first counts (unknown_told told)
-note_at first counts (Err fault) = Faulty fault
+-- the note of a tracefile with these first bytes and these counts in all, to which these rules were applied, and with this end
+abbrev pub note_at : (first : List ℕ) → Counts → (used : List Bool) → Result (Option SummaryData) ReadFault → Note
+note_at first counts used (Ok told) = note_of first counts (unknown_told told) used
+note_at first counts used (Err fault) = Faulty fault
 
--- what may come of the rest of an opened tracefile: it can't be read, or it is read up to an end
-abbrev pub MayGiveOpened : {S : Type 0} → (left : S → Option (List ℕ)) → (failed_reads : S → ℕ) → (first : List ℕ) → Counts → StateData S → OutcomeData Note → Type 0
-MayGiveOpened left failed_reads first counts rest outcome =
-    ((outcome.fault ≡ Some Unreadable) × MayFailFrom left failed_reads rest.source)
-    ⊎ ((read : List SubmissionData) × (end : Result (Option SummaryData) ReadFault) × MayGive left rest read end
-    × (outcome ≡ record { read = read; fault = Some (note_at first (counts_with counts read) end) }))
+-- the note of an opened tracefile whose rest is read as these submissions up to this end
+abbrev pub note_after : {S : Type 0} → List RuleData → Opened S → List SubmissionData → Result (Option SummaryData) ReadFault → Note
+note_after rules opened read end = note_at opened.first (counts_with opened.counts read) (used_with rules opened.used read) end
+
+-- what may come of the rest of an opened tracefile: it can't be read, or it is read up to an end, and gets its new names
+abbrev pub MayGiveOpened : {S : Type 0} → (left : S → Option (List ℕ)) → (failed_reads : S → ℕ) → NamesData → Opened S → OutcomeData Note → Type 0
+MayGiveOpened left failed_reads new opened outcome =
+    ((outcome.fault ≡ Some Unreadable) × MayFailFrom left failed_reads opened.rest.source)
+    ⊎ ((read : List SubmissionData) × (end : Result (Option SummaryData) ReadFault) × MayGive left opened.rest read end
+    × (outcome ≡ record { read = map (named new) read; fault = Some (note_after new.rules opened read end) }))
 
 -- what may come of a file that was opened before
-abbrev pub MayGiveLater : {S : Type 0} → (left : S → Option (List ℕ)) → (failed_reads : S → ℕ) → Stage S → OutcomeData Note → Type 0
-MayGiveLater left failed_reads stages.Unopened outcome = ⊥
-MayGiveLater left failed_reads (stages.Reading opened) outcome = MayGiveOpened left failed_reads opened.first opened.counts opened.rest outcome
-MayGiveLater left failed_reads (stages.Ended note) outcome = outcome ≡ record { read = []; fault = Some note }
+abbrev pub MayGiveLater : {S : Type 0} → (left : S → Option (List ℕ)) → (failed_reads : S → ℕ) → NamesData → Stage S → OutcomeData Note → Type 0
+MayGiveLater left failed_reads new stages.Unopened outcome = ⊥
+MayGiveLater left failed_reads new (stages.Reading opened) outcome = MayGiveOpened left failed_reads new opened outcome
+MayGiveLater left failed_reads new (stages.Ended note) outcome = outcome ≡ record { read = []; fault = Some note }
 
 -- what may come of a file at this stage
-abbrev pub MayGiveFrom : {S : Type 0} → (left : S → Option (List ℕ)) → (failed_reads : S → ℕ) → FolderData → Strictness → (name : List ℕ) → Stage S → OutcomeData Note → Type 0
-MayGiveFrom left failed_reads folder strictness name stages.Unopened outcome = IsOfFile folder strictness name outcome
-MayGiveFrom left failed_reads folder strictness name (stages.Reading opened) outcome = MayGiveLater left failed_reads (stages.Reading opened) outcome
-MayGiveFrom left failed_reads folder strictness name (stages.Ended note) outcome = MayGiveLater left failed_reads (stages.Ended note) outcome
+abbrev pub MayGiveFrom : {S : Type 0} → (left : S → Option (List ℕ)) → (failed_reads : S → ℕ) → FolderData → NamesData → Strictness → (name : List ℕ) → Stage S → OutcomeData Note → Type 0
+MayGiveFrom left failed_reads folder new strictness name stages.Unopened outcome = IsOfFile folder new strictness name outcome
+MayGiveFrom left failed_reads folder new strictness name (stages.Reading opened) outcome = MayGiveLater left failed_reads new (stages.Reading opened) outcome
+MayGiveFrom left failed_reads folder new strictness name (stages.Ended note) outcome = MayGiveLater left failed_reads new (stages.Ended note) outcome
 
 -- the file was opened before
 abbrev pub IsLater : {S : Type 0} → Stage S → Type 0
@@ -101,17 +111,17 @@ most_parts (stages.Reading opened) = opened.rest.left
 most_parts (stages.Ended note) = 0
 
 -- a file that gives what the opened tracefile gives
-pub record IsOpenedFor {S : Type 0} (left : S → Option (List ℕ)) (failed_reads : S → ℕ) (folder : FolderData) (strictness : Strictness) (name : List ℕ) (stage : Stage S) (opened : Opened S) : Type 0 where
-  pub gives : (outcome : OutcomeData Note) → MayGiveOpened left failed_reads opened.first opened.counts opened.rest outcome → MayGiveFrom left failed_reads folder strictness name stage outcome
+pub record IsOpenedFor {S : Type 0} (left : S → Option (List ℕ)) (failed_reads : S → ℕ) (folder : FolderData) (new : NamesData) (strictness : Strictness) (name : List ℕ) (stage : Stage S) (opened : Opened S) : Type 0 where
+  pub gives : (outcome : OutcomeData Note) → MayGiveOpened left failed_reads new opened outcome → MayGiveFrom left failed_reads folder new strictness name stage outcome
   pub most : opened.rest.left ≡ most_parts stage
 
--- a piece of an opened tracefile was read as this submission, and this is the next stage: whatever that gives, the tracefile may give with
+-- a piece of an opened tracefile was read, this is its submission with its new names, and this is the next stage: whatever that gives, the tracefile may give with
 -- the submission in front
-pub record IsNextStage {S : Type 0} (left : S → Option (List ℕ)) (failed_reads : S → ℕ) (opened : Opened S) (submission : SubmissionData) (stage : Stage S) : Type 0 where
+pub record IsNextStage {S : Type 0} (left : S → Option (List ℕ)) (failed_reads : S → ℕ) (new : NamesData) (opened : Opened S) (submission : SubmissionData) (stage : Stage S) : Type 0 where
   pub later : IsLater stage
   pub fewer : most_parts stage < opened.rest.left
-  pub gives : (outcome : OutcomeData Note) → MayGiveLater left failed_reads stage outcome
-      → MayGiveOpened left failed_reads opened.first opened.counts opened.rest (in_front submission outcome)
+  pub gives : (outcome : OutcomeData Note) → MayGiveLater left failed_reads new stage outcome
+      → MayGiveOpened left failed_reads new opened (in_front submission outcome)
 
 -- a file gives nothing more: it ends with its note, or memory ran out
 abbrev pub EndsWith : (MayGive : OutcomeData Note → Type 0) → Stop → Type 0
@@ -150,6 +160,18 @@ abbrev pub of_pattern : CallOption → PatternFault → WorkFault
 of_pattern option patterns.TooMany = works.Call (ManyPatterns option)
 of_pattern option patterns.TooLong = works.Call (LongPattern option)
 of_pattern option patterns.Memory = works.Memory
+
+-- the word of `--path` is no rule
+abbrev pub IsWordFault : (word : List ℕ) → WorkFault → Type 0
+IsWordFault word (works.Call (BadPath fault same)) = (same.now ≡ word) × IsRuleFault word fault
+IsWordFault word (works.Call other) = ⊥
+IsWordFault word works.Memory = Unit {0}
+
+-- one of these words of `--path` is no rule
+abbrev pub IsPathFault : (words : List (List ℕ)) → WorkFault → Type 0
+IsPathFault words (works.Call (BadPath fault word)) = Contains words word.now × IsRuleFault word.now fault
+IsPathFault words (works.Call other) = ⊥
+IsPathFault words works.Memory = Unit {0}
 
 -- the word of an option is no rate
 abbrev pub IsRateFault : CallOption → Option (List ℕ) → WorkFault → Type 0

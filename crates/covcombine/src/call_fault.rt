@@ -1,6 +1,7 @@
 //! Why a call isn't begun.
 
 use covdata::Memory;
+use covpaths::RuleFault;
 
 /// An option that may be wrong.
 #[derive(Clone, Copy)]
@@ -50,6 +51,8 @@ pub(crate) enum CallFault<'a> {
     LongPattern(CallOption),
     /// The word of the option is no percentage.
     NoRate(CallOption, &'a [u8]),
+    /// This word of `--path` is no rule.
+    BadPath(RuleFault, &'a str),
     /// The option asks for an overview, but standard output has the tracefile.
     NoRoom(CallOption),
     /// No file is named.

@@ -78,8 +78,8 @@ use std::thread::Threads;
 /// - 1 if the file or the output can't be written;
 /// - 6 if rates are below their thresholds.
 ///
-/// A call that isn't strict warns of what is doubtful: lines that don't fit their section, and patterns that match no source file or
-/// leave none.
+/// A call that isn't strict warns of what is doubtful: lines that don't fit their section, paths that apply to no source file, and
+/// patterns that match none or leave none.
 pub fn combine<
     R: Threads + Wait + Sync,
     F: Folder<File: Send> + Sync,
@@ -149,7 +149,7 @@ fn do_work<
     ensures reported { (ending : EndingData) × Ends (folder_data F.Folder F.File.Source folder.now) jobs (work_data work.entry) ending
         × IsReported (option_map (λ name. name.now) file.entry) ending result world.old world.new }
 {
-    let Ok(inputs) = tracefiles(folder, alloc, work.strictness, work.files) else {
+    let Ok(inputs) = tracefiles(folder, alloc, &work.new_names, work.strictness, work.files) else {
         return report::<P, I, O, E, T>(alloc, no_memory(), file, world);
     };
     match collect_into_book(rt, alloc, inputs, jobs, &NoGate) {

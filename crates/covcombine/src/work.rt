@@ -1,13 +1,15 @@
 //! The work of a call, made of its options.
 
-ghost use Rattle.std.specs.Prelude.{◌≡◌, ℕ, List, Option, map, option_map, IfOk, IfErr, IfSome};
+ghost use Rattle.std.specs.Prelude.{◌≡◌, ℕ, List, Option, None, Some, map, option_map, IfOk, IfErr, IfSome};
 ghost use Rattle.std.specs.String.{string_bytes};
 ghost use Rattle.covlimit.specs.LimitsView.{limits_data};
 ghost use Rattle.covlimit.specs.Rates.{IsRate};
+ghost use Rattle.covpaths.specs.Names.{AreGoodNames};
+ghost use Rattle.covpaths.specs.Paths.{IsGoodRule, rule_of as rule_of_word};
 ghost use Rattle.covreport.specs.ChoiceView.{choice_data};
 ghost use Rattle.covcombine.specs.declared.call_fault.CallOption.{CallOption as AnOption};
-ghost use Rattle.covcombine.specs.Options.{IsWorkOf, choice_by, limits_of as limits_with, limit_in, patterns_in};
-ghost use Rattle.covcombine.specs.Steps.{AreNames, ArePatterns, HasRoom, IsNameFault, IsPatternFault, IsRateFault, IsTwiceIfAny, IsWorkFault, of_pattern};
+ghost use Rattle.covcombine.specs.Options.{AreRulesOf, IsWorkOf, choice_by, limits_of as limits_with, limit_in, patterns_in};
+ghost use Rattle.covcombine.specs.Steps.{AreNames, ArePatterns, HasRoom, IsNameFault, IsPathFault, IsPatternFault, IsRateFault, IsTwiceIfAny, IsWordFault, IsWorkFault, of_pattern};
 ghost use Rattle.covcombine.specs.View.{work_data};
 
 use crate::call_fault::{CallFault, CallOption, WorkFault};
@@ -16,6 +18,7 @@ use covcommand::{
 };
 use covdata::{Bytes, Memory};
 use covlimit::{Limits, Rate};
+use covpaths::{NewNames, PathRule};
 use covreport::{Choice, PatternFault, Patterns};
 use std::alloc::Global;
 use std::collections::BTreeSet;
@@ -25,7 +28,9 @@ use std::collections::BTreeSet;
 pub(crate) struct Work<'a> {
     /// The files to read.
     pub(crate) files: &'a [String],
-    /// Whether doubtful files and patterns are refused.
+    /// The names under which counts are added up.
+    pub(crate) new_names: NewNames<'a>,
+    /// Whether doubtful files, paths and patterns are refused.
     pub(crate) strictness: Strictness,
     /// The source files that are printed and counted.
     pub(crate) choice: Choice,
@@ -40,7 +45,7 @@ pub(crate) struct Work<'a> {
 }
 
 /// Makes the work of `options`. `file` is the name of the output file, if the command line has one. Checks the patterns first, then
-/// the thresholds, whether an overview can be shown, and the names of the files.
+/// the paths, the thresholds, whether an overview can be shown, and the names of the files.
 pub(crate) fn work_of<'a>(
     alloc: Global,
     options: &'a CombineOptions,
@@ -51,11 +56,13 @@ pub(crate) fn work_of<'a>(
     ensures fault { IfErr result (IsWorkFault options.now (option_map (λ name. name.now) file.entry)) }
 {
     let choice = choice_of(alloc, &options.filter)?;
+    let new_names = new_names_of(alloc, options)?;
     let limits = limits_of(alloc, &options.limits)?;
     check_overview(options, file)?;
     check_names(alloc, options.names.get())?;
     Ok(Work {
         files: options.names.get(),
+        new_names,
         strictness,
         choice,
         overview: options.overview,
@@ -106,6 +113,35 @@ fn pattern_fault<'a>(option: CallOption, fault: PatternFault) -> WorkFault<'a>
         PatternFault::TooMany => WorkFault::Call(CallFault::ManyPatterns(option)),
         PatternFault::TooLong => WorkFault::Call(CallFault::LongPattern(option)),
         PatternFault::Memory => WorkFault::Memory,
+    }
+}
+
+/// The names under which counts are added up.
+fn new_names_of<'a>(
+    alloc: Global,
+    options: &'a CombineOptions,
+) -> Result<NewNames<'a>, WorkFault<'a>>
+    ensures rules { IfOk result (λ names. AreRulesOf options.now.paths names.rules) }
+    ensures test { IfOk result (λ names. names.test ≡ None) }
+    ensures good { IfOk result AreGoodNames }
+    ensures fault { IfErr result (IsPathFault options.now.paths) }
+{
+    let mut names = NewNames::of_test(alloc, None);
+    for word in options.paths.get() {
+        names.add(rule_of(word.as_str())?)?;
+    }
+    Ok(names)
+}
+
+/// Parses `word` as a rule for paths.
+fn rule_of<'a>(word: &'a str) -> Result<PathRule<'a>, WorkFault<'a>>
+    ensures rule { IfOk result (λ rule. rule_of_word word.now ≡ Some rule) }
+    ensures good { IfOk result IsGoodRule }
+    ensures fault { IfErr result (IsWordFault word.now) }
+{
+    match PathRule::of(word) {
+        Ok(rule) => Ok(rule),
+        Err(fault) => Err(WorkFault::Call(CallFault::BadPath(fault, word))),
     }
 }
 

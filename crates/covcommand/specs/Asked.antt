@@ -89,6 +89,7 @@ IsOverviewOf rows overviews.List = one_of (codes "list") rows ≡ Some (codes "t
 pub record AsksToCombine (rows : List Row) (options : CombineOptions) : Type 0 where
   pub jobs : IsNumberIfAny (codes "jobs") rows options.jobs
   pub expected : IsNumberIfAny (codes "expect") rows options.expected
+  pub paths : options.paths ≡ values_of (codes "path") rows
   pub filter : IsFilterOf rows options.filter
   pub overview : IsOverviewOf rows options.overview
   pub form : IsFormOf rows options.form

@@ -161,9 +161,17 @@ abbrev pub reading : App
 reading = with_rule (with_rule (with_rule (with_rule (with_rule (with_rule (with_rule (new_app (codes "combine"))
     files) own_jobs) output) strict) (patterns (codes "include"))) (patterns (codes "exclude"))) expect
 
+-- `--path OLD=NEW`. It may be given any number of times, or not at all
+abbrev pub paths : Rule
+paths = patterns (codes "path")
+
+-- and the names under which counts are added up
+abbrev pub naming : App
+naming = with_rule reading paths
+
 -- and what is shown
 abbrev pub showing : App
-showing = with_rule (with_rule (with_rule reading (flag (codes "list"))) json) quiet
+showing = with_rule (with_rule (with_rule naming (flag (codes "list"))) json) quiet
 
 -- and limits
 abbrev pub combine : App

@@ -114,6 +114,8 @@ pub struct CombineOptions {
     pub jobs: Option<u32>,
     /// How many files have to be read, from 1 to 1,048,576, or `None` without the option.
     pub expected: Option<u32>,
+    /// `--path`: which paths source files get, each as an unparsed argument.
+    pub paths: Names,
     /// Which source files are printed and counted.
     pub filter: SourceFilter,
     /// What is shown of the merged tracefile if it goes into a file.

@@ -20,13 +20,20 @@ pub(crate) fn combine<'a>(alloc: Global) -> Result<Command<'a>, AllocError>
     taking(taking(taking(combine, lines), functions), branches)
 }
 
-/// Returns `combine` without thresholds: that of `reading` with three flags for what is shown.
+/// Returns `combine` without thresholds: that of `naming` with three flags for what is shown.
 fn showing<'a>(alloc: Global) -> Result<Command<'a>, AllocError>
     ensures { IfOk result (HasNoGlobals line.showing) }
 {
-    let showing = taking(reading(alloc), flag(alloc, "list", help::SHOW_LIST));
+    let showing = taking(naming(alloc), flag(alloc, "list", help::SHOW_LIST));
     let showing = taking(showing, json(alloc));
     taking(showing, quiet(alloc))
+}
+
+/// Returns that of `reading` with the options for the names under which counts are added up.
+fn naming<'a>(alloc: Global) -> Result<Command<'a>, AllocError>
+    ensures { IfOk result (HasNoGlobals line.naming) }
+{
+    taking(reading(alloc), paths(alloc))
 }
 
 /// Returns `combine` with the files, and the options for how they are read and which of their counts are printed.
@@ -75,6 +82,17 @@ fn expect<'a>(alloc: Global) -> Arg<'a>
         .action(ArgAction::Set)
         .value_parser(value_parser!(u32).range(1..=1_048_576))
         .help(help::EXPECT)
+}
+
+/// `--path OLD=NEW`, which path a source file gets. It may be repeated.
+fn paths<'a>(alloc: Global) -> Arg<'a>
+    ensures { IsRule line.paths result }
+{
+    Arg::new(alloc, "path")
+        .long("path")
+        .value_name("OLD=NEW")
+        .action(ArgAction::Append)
+        .help(help::PATH)
 }
 
 /// The flag `--quiet` or `-q`: no progress is shown.

@@ -160,6 +160,8 @@ and to end with status 5 unless 500 files were read
   covcollect combine --expect 500 -o all.info jobs/*.info
 and to leave out source files (extract --help tells of patterns)
   covcollect combine --exclude '/usr/*' -o all.info jobs/*.info
+and to count what is under /build/a as what is under /src
+  covcollect combine --path /build/a=/src -o all.info jobs/*.info
 and to end with status 6 where too little is hit
   covcollect combine --fail-under-lines 80 -o all.info jobs/*.info
 Without -o the tracefile is printed.";
@@ -241,6 +243,11 @@ pub(crate) const EXCLUDE: &str = "No source files that match; may be repeated";
 
 /// The help of `--json`.
 pub(crate) const JSON: &str = "Print JSON";
+
+/// The help of `--path`.
+pub(crate) const PATH: &str = "\
+Count what is under OLD as under NEW; may be
+repeated, the first that fits counts";
 
 /// The help of `--expect`.
 pub(crate) const EXPECT: &str = "Status 5 unless N files are read";

@@ -213,6 +213,7 @@ fn combine_options_of(alloc: Global, found: &ArgMatches<'_>) -> Result<CombineOp
     Ok(CombineOptions {
         jobs: jobs_if_any(found),
         expected: expected_of(found),
+        paths: patterns_of(alloc, found, "path")?,
         filter: source_filter_of(alloc, found)?,
         overview: overview_of(found),
         form: form_of(found),
