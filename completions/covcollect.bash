@@ -105,7 +105,7 @@ _covcollect() {
                 gcov) options+=' --test -o --output' ;;
                 check) options+=' -j --jobs --gcov --lcov2 --strict --large' ;;
                 combine)
-                    options+=' -j --jobs -o --output --strict --include --exclude --expect --path --list --json -q --quiet'
+                    options+=' -j --jobs -o --output --strict --include --exclude --expect --path --one-test --list --json -q --quiet'
                     options+=' --fail-under-lines --fail-under-functions --fail-under-branches'
                     ;;
                 html) options+=' -j --jobs --lcov2 --strict --large --include --exclude -o --output --title --date --source' ;;

@@ -111,6 +111,7 @@ complete -c covcollect -n '__covcollect_within summary combine' -l fail-under-li
 complete -c covcollect -n '__covcollect_within summary combine' -l fail-under-functions -x -d 'Status 6 if fewer are hit, in percent'
 complete -c covcollect -n '__covcollect_within summary combine' -l fail-under-branches -x -d 'Status 6 if fewer are hit, in percent'
 complete -c covcollect -n '__covcollect_within combine' -l expect -x -d 'Status 5 unless so many files are read'
+complete -c covcollect -n '__covcollect_within combine' -l one-test -d 'Count all as of one test, whose name may stand behind ='
 complete -c covcollect -n '__covcollect_within combine' -l path -x -d 'Count what is under OLD as under NEW, as OLD=NEW'
 complete -c covcollect -n '__covcollect_within combine' -l list -d 'List each source file, with -o'
 complete -c covcollect -n '__covcollect_within combine' -s q -l quiet -d 'Show no progress'

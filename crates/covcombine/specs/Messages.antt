@@ -13,7 +13,7 @@ use Rattle.covpaths.specs.declared.rule.RuleFault.TheVariants as rules
 use Rattle.covsession.specs.Session.{said}
 use Rattle.covtable.specs.Clash.{ClashData}
 use Rattle.covcombine.specs.declared.call_fault.CallFault.{CallFault}
-use Rattle.covcombine.specs.declared.call_fault.CallFault.TheVariants.{ManyPatterns, LongPattern, NoRate, BadPath, NoRoom, NoName, Twice}
+use Rattle.covcombine.specs.declared.call_fault.CallFault.TheVariants.{ManyPatterns, LongPattern, NoRate, BadPath, BadTest, NoRoom, NoName, Twice}
 use Rattle.covcombine.specs.declared.call_fault.CallOption.{CallOption}
 use Rattle.covcombine.specs.declared.call_fault.CallOption.TheVariants as options
 use Rattle.covcombine.specs.declared.stranger.Stranger.{Stranger}
@@ -155,6 +155,8 @@ call_fault_line (LongPattern option) = error_line (option_name option ++ codes "
 call_fault_line (NoRate option word) =
     error_line (option_name option ++ (codes " " ++ (shown_name word.now ++ codes ": a number from 0 to 100 with at most six decimals was expected")))
 call_fault_line (BadPath fault word) = error_line (codes "--path " ++ (shown_name word.now ++ rule_fault_words fault))
+call_fault_line (BadTest test) =
+    error_line (codes "--one-test=" ++ (shown_name test.now ++ codes ": a test's name has no line feed, and no carriage return at its end"))
 call_fault_line (NoRoom option) = error_line (option_name option ++ codes ": needs -o FILE, since standard output has the tracefile")
 call_fault_line NoName = error_line (codes "no file is named: did a pattern match nothing?")
 call_fault_line (Twice name) = told name.now (codes "named twice")

@@ -8,13 +8,14 @@ use Rattle.covcommand.specs.declared.asked.SourceFilter.{SourceFilter}
 use Rattle.covcommand.specs.declared.asked.Strictness.{Strictness}
 use Rattle.covcommand.specs.declared.asked.TotalsForm.{TotalsForm}
 use Rattle.covcommand.specs.declared.asked.TotalsForm.TheVariants.{Json}
+use Rattle.covdata.specs.Lawful.{IsGoodTest}
 use Rattle.covlimit.specs.Limits.{LimitsData}
 use Rattle.covlimit.specs.Rates.{IsRate}
 use Rattle.covpaths.specs.Names.{AreGoodNames, NamesData}
 use Rattle.covpaths.specs.Paths.{IsRuleFault, RuleData, rule_of}
 use Rattle.covreport.specs.Choice.{ChoiceData, AllFiles, Filtered, max_pattern_bytes, max_patterns}
 use Rattle.covcombine.specs.declared.call_fault.CallFault.{CallFault}
-use Rattle.covcombine.specs.declared.call_fault.CallFault.TheVariants.{ManyPatterns, LongPattern, NoRate, BadPath, NoRoom, NoName, Twice}
+use Rattle.covcombine.specs.declared.call_fault.CallFault.TheVariants.{ManyPatterns, LongPattern, NoRate, BadPath, BadTest, NoRoom, NoName, Twice}
 use Rattle.covcombine.specs.declared.call_fault.CallOption.{CallOption}
 use Rattle.covcombine.specs.declared.call_fault.CallOption.TheVariants.{Include, Exclude, FailUnderLines, FailUnderFunctions, FailUnderBranches, List as ShowList, Json as PrintJson}
 
@@ -59,6 +60,7 @@ IsCallFault options file (ManyPatterns option) = max_patterns < length (patterns
 IsCallFault options file (LongPattern option) = (pattern : List ℕ) × Contains (patterns_in option options.filter) pattern × (max_pattern_bytes < length pattern)
 IsCallFault options file (NoRate option word) = (limit_in option options.limits ≡ Some word.now) × (IsRate word.now → ⊥)
 IsCallFault options file (BadPath fault word) = Contains options.paths word.now × IsRuleFault word.now fault
+IsCallFault options file (BadTest test) = (options.test ≡ Some test.now) × (IsGoodTest test.now → ⊥)
 IsCallFault options file (NoRoom option) = (file ≡ None) × AsksForOverview option options
 IsCallFault options file NoName = options.names ≡ []
 IsCallFault options file (Twice name) = IsTwice options.names name.now
@@ -82,7 +84,7 @@ pub record IsWorkOf (options : CombineOptions) (strictness : Strictness) (file :
   pub faultless : (fault : CallFault) → IsCallFault options file fault → ⊥
   pub files : work.files ≡ options.names
   pub rules : AreRulesOf options.paths work.new.rules
-  pub test : work.new.test ≡ None
+  pub test : work.new.test ≡ options.test
   pub good : AreGoodNames work.new
   pub strict : work.strictness ≡ strictness
   pub choice : work.choice ≡ choice_by options.filter.includes options.filter.excludes

@@ -4,6 +4,7 @@ use Rattle.std.specs.Prelude.{◌≡◌, ◌⊎◌, ◌+◌, ◌<◌, ◌≤◌,
 use Rattle.covcommand.specs.declared.asked.CombineOptions.{CombineOptions}
 use Rattle.covcommand.specs.declared.asked.Strictness.{Strictness}
 use Rattle.covcommand.specs.declared.asked.Strictness.TheVariants.{Lenient, Strict}
+use Rattle.covdata.specs.Lawful.{IsGoodTest}
 use Rattle.covdata.specs.Row.{SubmissionData, items_in}
 use Rattle.covdata.specs.declared.fault.ReadFault.{ReadFault}
 use Rattle.covlarge.specs.Large.{max_pieces}
@@ -27,7 +28,7 @@ use Rattle.covworkers.specs.declared.late_fault.LateFault.TheVariants as late
 use Rattle.covworld.specs.Folder.{FolderData}
 use Rattle.covcombine.specs.Notes.{IsOfFile, note_of}
 use Rattle.covcombine.specs.Options.{AsksForOverview, IsCallFault, IsTwice}
-use Rattle.covcombine.specs.declared.call_fault.CallFault.TheVariants.{ManyPatterns, LongPattern, NoRate, BadPath, NoName, Twice}
+use Rattle.covcombine.specs.declared.call_fault.CallFault.TheVariants.{ManyPatterns, LongPattern, NoRate, BadPath, BadTest, NoName, Twice}
 use Rattle.covcombine.specs.declared.call_fault.CallOption.{CallOption}
 use Rattle.covcombine.specs.declared.call_fault.WorkFault.{WorkFault}
 use Rattle.covcombine.specs.declared.call_fault.WorkFault.TheVariants as works
@@ -167,11 +168,18 @@ IsWordFault word (works.Call (BadPath fault same)) = (same.now ≡ word) × IsRu
 IsWordFault word (works.Call other) = ⊥
 IsWordFault word works.Memory = Unit {0}
 
--- one of these words of `--path` is no rule
-abbrev pub IsPathFault : (words : List (List ℕ)) → WorkFault → Type 0
-IsPathFault words (works.Call (BadPath fault word)) = Contains words word.now × IsRuleFault word.now fault
-IsPathFault words (works.Call other) = ⊥
-IsPathFault words works.Memory = Unit {0}
+-- no test can have the name of the one test
+abbrev pub IsTestFault : Option (List ℕ) → WorkFault → Type 0
+IsTestFault test (works.Call (BadTest told)) = (test ≡ Some told.now) × (IsGoodTest told.now → ⊥)
+IsTestFault test (works.Call other) = ⊥
+IsTestFault test works.Memory = ⊥
+
+-- the one test can't have its name, or a word of `--path` is no rule
+abbrev pub IsNewNameFault : CombineOptions → WorkFault → Type 0
+IsNewNameFault options (works.Call (BadTest told)) = IsTestFault options.test (works.Call (BadTest told))
+IsNewNameFault options (works.Call (BadPath fault word)) = Contains options.paths word.now × IsRuleFault word.now fault
+IsNewNameFault options (works.Call other) = ⊥
+IsNewNameFault options works.Memory = Unit {0}
 
 -- the word of an option is no rate
 abbrev pub IsRateFault : CallOption → Option (List ℕ) → WorkFault → Type 0

@@ -53,6 +53,8 @@ pub(crate) enum CallFault<'a> {
     NoRate(CallOption, &'a [u8]),
     /// This word of `--path` is no rule.
     BadPath(RuleFault, &'a str),
+    /// No test can have this name.
+    BadTest(&'a [u8]),
     /// The option asks for an overview, but standard output has the tracefile.
     NoRoom(CallOption),
     /// No file is named.

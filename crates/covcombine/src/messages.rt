@@ -344,6 +344,7 @@ pub(crate) fn put_call_fault(fault: CallFault<'_>, lines: &mut Bytes) -> Result<
         }
         CallFault::NoRate(option, word) => put_no_rate(option, word, lines),
         CallFault::BadPath(fault, word) => put_bad_path(fault, word.as_bytes(), lines),
+        CallFault::BadTest(test) => put_bad_test(test, lines),
         CallFault::NoRoom(option) => put_error(
             option,
             b": needs -o FILE, since standard output has the tracefile",
@@ -374,6 +375,16 @@ fn put_bad_path(fault: RuleFault, word: &[u8], lines: &mut Bytes) -> Result<(), 
     put_shown_name(word, lines)?;
     lines.append(rule_fault_words(fault))?;
     lines.append(b"\n")
+}
+
+/// Appends the line about a name that no test can have.
+fn put_bad_test(test: &[u8], lines: &mut Bytes) -> Result<(), Memory>
+    ensures { OnOk result (lines.new ≡ lines.old ++ error_line (codes "--one-test=" ++ (shown_name test.now
+        ++ codes ": a test's name has no line feed, and no carriage return at its end"))) }
+{
+    lines.append(b"error: --one-test=")?;
+    put_shown_name(test, lines)?;
+    lines.append(b": a test's name has no line feed, and no carriage return at its end\n")
 }
 
 /// What is wrong with a word that is no rule for paths.

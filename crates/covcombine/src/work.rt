@@ -1,22 +1,22 @@
 //! The work of a call, made of its options.
 
-ghost use Rattle.std.specs.Prelude.{◌≡◌, ℕ, List, Option, None, Some, map, option_map, IfOk, IfErr, IfSome};
+ghost use Rattle.std.specs.Prelude.{◌≡◌, ℕ, List, Option, Some, map, option_map, IfOk, IfErr, IfSome};
 ghost use Rattle.std.specs.String.{string_bytes};
 ghost use Rattle.covlimit.specs.LimitsView.{limits_data};
 ghost use Rattle.covlimit.specs.Rates.{IsRate};
-ghost use Rattle.covpaths.specs.Names.{AreGoodNames};
+ghost use Rattle.covpaths.specs.Names.{AreGoodNames, IsGoodTestIfAny};
 ghost use Rattle.covpaths.specs.Paths.{IsGoodRule, rule_of as rule_of_word};
 ghost use Rattle.covreport.specs.ChoiceView.{choice_data};
 ghost use Rattle.covcombine.specs.declared.call_fault.CallOption.{CallOption as AnOption};
 ghost use Rattle.covcombine.specs.Options.{AreRulesOf, IsWorkOf, choice_by, limits_of as limits_with, limit_in, patterns_in};
-ghost use Rattle.covcombine.specs.Steps.{AreNames, ArePatterns, HasRoom, IsNameFault, IsPathFault, IsPatternFault, IsRateFault, IsTwiceIfAny, IsWordFault, IsWorkFault, of_pattern};
+ghost use Rattle.covcombine.specs.Steps.{AreNames, ArePatterns, HasRoom, IsNameFault, IsNewNameFault, IsPatternFault, IsRateFault, IsTestFault, IsTwiceIfAny, IsWordFault, IsWorkFault, of_pattern};
 ghost use Rattle.covcombine.specs.View.{work_data};
 
 use crate::call_fault::{CallFault, CallOption, WorkFault};
 use covcommand::{
     CombineOptions, Limits as LimitWords, Overview, SourceFilter, Strictness, TotalsForm,
 };
-use covdata::{Bytes, Memory};
+use covdata::{Bytes, Memory, good_test};
 use covlimit::{Limits, Rate};
 use covpaths::{NewNames, PathRule};
 use covreport::{Choice, PatternFault, Patterns};
@@ -45,7 +45,7 @@ pub(crate) struct Work<'a> {
 }
 
 /// Makes the work of `options`. `file` is the name of the output file, if the command line has one. Checks the patterns first, then
-/// the paths, the thresholds, whether an overview can be shown, and the names of the files.
+/// the name of the test, the paths, the thresholds, whether an overview can be shown, and the names of the files.
 pub(crate) fn work_of<'a>(
     alloc: Global,
     options: &'a CombineOptions,
@@ -122,15 +122,28 @@ fn new_names_of<'a>(
     options: &'a CombineOptions,
 ) -> Result<NewNames<'a>, WorkFault<'a>>
     ensures rules { IfOk result (λ names. AreRulesOf options.now.paths names.rules) }
-    ensures test { IfOk result (λ names. names.test ≡ None) }
+    ensures test { IfOk result (λ names. names.test ≡ options.now.test) }
     ensures good { IfOk result AreGoodNames }
-    ensures fault { IfErr result (IsPathFault options.now.paths) }
+    ensures fault { IfErr result (IsNewNameFault options.now) }
 {
-    let mut names = NewNames::of_test(alloc, None);
+    let mut names = NewNames::of_test(alloc, test_of(options)?);
     for word in options.paths.get() {
         names.add(rule_of(word.as_str())?)?;
     }
     Ok(names)
+}
+
+/// The name of the test that all counts get, or `None` if each keeps its own.
+fn test_of<'a>(options: &'a CombineOptions) -> Result<Option<&'a [u8]>, WorkFault<'a>>
+    ensures test { IfOk result (λ test. option_map (λ name. name.now) test ≡ options.now.test) }
+    ensures good { IfOk result (λ _. IsGoodTestIfAny options.now.test) }
+    ensures fault { IfErr result (IsTestFault options.now.test) }
+{
+    match &options.test {
+        None => Ok(None),
+        Some(test) if good_test(test.get()) => Ok(Some(test.get())),
+        Some(test) => Err(WorkFault::Call(CallFault::BadTest(test.get()))),
+    }
 }
 
 /// Parses `word` as a rule for paths.

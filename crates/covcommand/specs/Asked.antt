@@ -90,6 +90,7 @@ pub record AsksToCombine (rows : List Row) (options : CombineOptions) : Type 0 w
   pub jobs : IsNumberIfAny (codes "jobs") rows options.jobs
   pub expected : IsNumberIfAny (codes "expect") rows options.expected
   pub paths : options.paths ≡ values_of (codes "path") rows
+  pub test : IsTextIfAny (codes "one-test") rows options.test
   pub filter : IsFilterOf rows options.filter
   pub overview : IsOverviewOf rows options.overview
   pub form : IsFormOf rows options.form

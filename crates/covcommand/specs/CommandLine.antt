@@ -165,9 +165,13 @@ reading = with_rule (with_rule (with_rule (with_rule (with_rule (with_rule (with
 abbrev pub paths : Rule
 paths = patterns (codes "path")
 
+-- `--one-test=NAME`. It may be given once, or not at all
+abbrev pub one_test : Rule
+one_test = limit (codes "one-test")
+
 -- and the names under which counts are added up
 abbrev pub naming : App
-naming = with_rule reading paths
+naming = with_rule (with_rule reading paths) one_test
 
 -- and what is shown
 abbrev pub showing : App

@@ -116,6 +116,8 @@ pub struct CombineOptions {
     pub expected: Option<u32>,
     /// `--path`: which paths source files get, each as an unparsed argument.
     pub paths: Names,
+    /// `--one-test`: the test that all counts get, or `None` if each keeps its own.
+    pub test: Option<Bytes>,
     /// Which source files are printed and counted.
     pub filter: SourceFilter,
     /// What is shown of the merged tracefile if it goes into a file.

@@ -33,7 +33,8 @@ fn showing<'a>(alloc: Global) -> Result<Command<'a>, AllocError>
 fn naming<'a>(alloc: Global) -> Result<Command<'a>, AllocError>
     ensures { IfOk result (HasNoGlobals line.naming) }
 {
-    taking(reading(alloc), paths(alloc))
+    let naming = taking(reading(alloc), paths(alloc));
+    taking(naming, one_test(alloc))
 }
 
 /// Returns `combine` with the files, and the options for how they are read and which of their counts are printed.
@@ -93,6 +94,17 @@ fn paths<'a>(alloc: Global) -> Arg<'a>
         .value_name("OLD=NEW")
         .action(ArgAction::Append)
         .help(help::PATH)
+}
+
+/// `--one-test=NAME`, the test that all counts get. It is allowed at most once. `spelled_out` gives it a value where it has none.
+fn one_test<'a>(alloc: Global) -> Arg<'a>
+    ensures { IsRule line.one_test result }
+{
+    Arg::new(alloc, "one-test")
+        .long("one-test")
+        .value_name("NAME")
+        .action(ArgAction::Set)
+        .help(help::ONE_TEST)
 }
 
 /// The flag `--quiet` or `-q`: no progress is shown.

@@ -249,6 +249,11 @@ pub(crate) const PATH: &str = "\
 Count what is under OLD as under NEW; may be
 repeated, the first that fits counts";
 
+/// The help of `--one-test`.
+pub(crate) const ONE_TEST: &str = "\
+Count all as of one test, by itself as of the
+empty name: --one-test, or --one-test=NAME";
+
 /// The help of `--expect`.
 pub(crate) const EXPECT: &str = "Status 5 unless N files are read";
 

@@ -214,6 +214,7 @@ fn combine_options_of(alloc: Global, found: &ArgMatches<'_>) -> Result<CombineOp
         jobs: jobs_if_any(found),
         expected: expected_of(found),
         paths: patterns_of(alloc, found, "path")?,
+        test: text_if_any(alloc, found, "one-test")?,
         filter: source_filter_of(alloc, found)?,
         overview: overview_of(found),
         form: form_of(found),

@@ -176,12 +176,15 @@ fn put_command(rt: &impl Abort, text: &mut String, command: &Command) {
     }
 }
 
-/// Appends the command `combine`, its numbers, the paths, the source filter, the overview, the thresholds and the names.
+/// Appends the command `combine`, its numbers, the paths, the test, the source filter, the overview, the thresholds and the names.
 fn put_combine(rt: &impl Abort, text: &mut String, options: &CombineOptions) {
     put(rt, text, "combine");
     put_number(rt, text, " jobs(", options.jobs);
     put_number(rt, text, " expected(", options.expected);
     put_each(rt, text, " path[", &options.paths);
+    if let Some(test) = &options.test {
+        put_limit(rt, text, " test(", test.get());
+    }
     put_each(rt, text, " +[", &options.filter.includes);
     put_each(rt, text, " -[", &options.filter.excludes);
     put(rt, text, overview_word(&options.overview));

@@ -2,7 +2,8 @@
 
 ghost use Rattle.std.specs.Prelude.{◌≡◌, map, option_map};
 ghost use Rattle.std.specs.String.{string_bytes};
-ghost use Rattle.covrun.specs.Call.{of_line, IsCall, IsCommandDone, IsEndingPrinted, IsServed};
+ghost use Rattle.covcommand.specs.Spelling.{spelled_out as spelled_out_words};
+ghost use Rattle.covrun.specs.Call.{of_line, AreParsed, IsCall, IsCommandDone, IsEndingPrinted, IsServed};
 ghost use Rattle.covworld.specs.Folder.{folder_data};
 ghost use Rattle.covworld.specs.OutputFiles.{file_of, is_output as is_output_name};
 ghost use Rattle.covworld.specs.Streams.{CanWrite};
@@ -15,7 +16,7 @@ use crate::output::{report_failure, report_line};
 use crate::pages::do_pages;
 use crate::work::{Task, task_for};
 use covcombine::combine;
-use covcommand::{Asked, CommandFault, command};
+use covcommand::{Asked, CommandFault, command, spelled_out};
 use covhtml::PointsTable;
 use covreport::Table;
 use covstream::{Sink, Source};
@@ -73,10 +74,18 @@ pub fn run<
     ensures { IsCall (folder_data F.Folder F.File.Source folder.now) (map string_bytes words.now) result world.old world.new }
 {
     let alloc = rt.alloc();
-    match command(alloc, words) {
+    match parsed(alloc, words) {
         Ok(asked) => run_command::<R, F, P, I, O, E, T>(rt, folder, alloc, asked, world),
         Err(fault) => report_line(fault, &mut world.sinks),
     }
+}
+
+/// Parses the command line, after its words are spelled out as `command` takes them.
+fn parsed(alloc: Global, words: &[String]) -> Result<Asked, CommandFault>
+    ensures { AreParsed (spelled_out_words (map string_bytes words.now)) result }
+{
+    let words = spelled_out(alloc, words)?;
+    command(alloc, words.as_slice())
 }
 
 /// Executes the command that `asked` has, and returns the exit status.

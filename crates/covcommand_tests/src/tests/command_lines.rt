@@ -44,6 +44,8 @@ covcollect combine -o all.info b.info a.info => combine [b.info] [a.info] large 
 covcollect combine -j 4 --expect 2 a.info b.info => combine jobs(4) expected(2) [a.info] [b.info] large
 covcollect combine --jobs=64 --expect=1048576 a.info => combine jobs(64) expected(1048576) [a.info] large
 covcollect combine --path /a=/b --path=/c= a.info => combine path[/a=/b] path[/c=] [a.info] large
+covcollect combine --one-test=all a.info => combine test(all) [a.info] large
+covcollect combine --one-test= a.info => combine test() [a.info] large
 covcollect combine --strict -q a.info => combine [a.info] strict large
 covcollect combine --quiet a.info --json --list => combine list json [a.info] large
 covcollect combine --include '*.c' --exclude '/usr/*' --fail-under-lines 80 a.info => combine +[*.c] -[/usr/*] lines(80) [a.info] large
