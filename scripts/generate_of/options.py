@@ -92,7 +92,7 @@ def zsh_names(parts, text):
     words = " ".join([*parts, *(variables.get(it, "") for it in re.findall(r"\$(\w+)", parts[0]))])
     words = re.sub(r"'\(.*?\)'|\[[^\]]*\]", " ", words)
     words = re.sub(r"(\S*)\{([^{}]*)\}'?(=?)", lambda it: " ".join(it[1] + name + it[3] for name in it[2].split(",")), words)
-    return {name: bool(sign) for name, sign in re.findall(r"(?<![\w-])(--?[A-Za-z][\w-]*)([+=](?!-)|)", words)}
+    return {name: bool(sign) for name, sign in re.findall(r"(?<![\w-])(--?[A-Za-z\d][\w-]*)([+=](?!-)|)", words)}
 
 
 def in_fish(text, subcommand):

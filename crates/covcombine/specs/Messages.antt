@@ -13,7 +13,7 @@ use Rattle.covpaths.specs.declared.rule.RuleFault.TheVariants as rules
 use Rattle.covsession.specs.Session.{said}
 use Rattle.covtable.specs.Clash.{ClashData}
 use Rattle.covcombine.specs.declared.call_fault.CallFault.{CallFault}
-use Rattle.covcombine.specs.declared.call_fault.CallFault.TheVariants.{ManyPatterns, LongPattern, NoRate, BadPath, BadTest, NoRoom, NoName, Twice}
+use Rattle.covcombine.specs.declared.call_fault.CallFault.TheVariants.{ManyPatterns, LongPattern, NoRate, BadPath, BadTest, NoRoom, NoName, Twice, OneFile, UnreadList, LongList, NotText}
 use Rattle.covcombine.specs.declared.call_fault.CallOption.{CallOption}
 use Rattle.covcombine.specs.declared.call_fault.CallOption.TheVariants as options
 use Rattle.covcombine.specs.declared.stranger.Stranger.{Stranger}
@@ -160,3 +160,7 @@ call_fault_line (BadTest test) =
 call_fault_line (NoRoom option) = error_line (option_name option ++ codes ": needs -o FILE, since standard output has the tracefile")
 call_fault_line NoName = error_line (codes "no file is named: did a pattern match nothing?")
 call_fault_line (Twice name) = told name.now (codes "named twice")
+call_fault_line (OneFile first second) = told second.now (codes "the same file as " ++ shown_name first.now)
+call_fault_line (UnreadList list) = unreadable_line list.now
+call_fault_line (LongList list) = told list.now (codes "more than 64 MiB")
+call_fault_line (NotText list number) = told_at list.now number (codes "the name isn't UTF-8")

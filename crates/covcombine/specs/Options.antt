@@ -14,8 +14,10 @@ use Rattle.covlimit.specs.Rates.{IsRate}
 use Rattle.covpaths.specs.Names.{AreGoodNames, NamesData}
 use Rattle.covpaths.specs.Paths.{IsRuleFault, RuleData, rule_of}
 use Rattle.covreport.specs.Choice.{ChoiceData, AllFiles, Filtered, max_pattern_bytes, max_patterns}
+use Rattle.covworld.specs.Folder.{FolderData}
+use Rattle.covcombine.specs.FileNames.{AreApart, AreOneFile}
 use Rattle.covcombine.specs.declared.call_fault.CallFault.{CallFault}
-use Rattle.covcombine.specs.declared.call_fault.CallFault.TheVariants.{ManyPatterns, LongPattern, NoRate, BadPath, BadTest, NoRoom, NoName, Twice}
+use Rattle.covcombine.specs.declared.call_fault.CallFault.TheVariants.{ManyPatterns, LongPattern, NoRate, BadPath, BadTest, NoRoom, NoName, Twice, OneFile, UnreadList, LongList, NotText}
 use Rattle.covcombine.specs.declared.call_fault.CallOption.{CallOption}
 use Rattle.covcombine.specs.declared.call_fault.CallOption.TheVariants.{Include, Exclude, FailUnderLines, FailUnderFunctions, FailUnderBranches, List as ShowList, Json as PrintJson}
 
@@ -54,16 +56,26 @@ AsksForOverview other options = ⊥
 abbrev pub IsTwice : List (List ℕ) → (name : List ℕ) → Type 0
 IsTwice names name = (before after : List (List ℕ)) × (names ≡ before ++ name ∷ after) × Contains before name
 
--- the call isn't begun for this reason. `file`: the name of the file that the call names, unless that is standard output
-abbrev pub IsCallFault : CombineOptions → (file : Option (List ℕ)) → CallFault → Type 0
-IsCallFault options file (ManyPatterns option) = max_patterns < length (patterns_in option options.filter)
-IsCallFault options file (LongPattern option) = (pattern : List ℕ) × Contains (patterns_in option options.filter) pattern × (max_pattern_bytes < length pattern)
-IsCallFault options file (NoRate option word) = (limit_in option options.limits ≡ Some word.now) × (IsRate word.now → ⊥)
-IsCallFault options file (BadPath fault word) = Contains options.paths word.now × IsRuleFault word.now fault
-IsCallFault options file (BadTest test) = (options.test ≡ Some test.now) × (IsGoodTest test.now → ⊥)
-IsCallFault options file (NoRoom option) = (file ≡ None) × AsksForOverview option options
-IsCallFault options file NoName = options.names ≡ []
-IsCallFault options file (Twice name) = IsTwice options.names name.now
+-- the call isn't begun for this reason. `names`: the names of all files. `file`: the name of the output file that the call names, unless
+-- that is standard output
+abbrev pub IsCallFault : FolderData → CombineOptions → (names : List (List ℕ)) → (file : Option (List ℕ)) → CallFault → Type 0
+IsCallFault folder options names file (ManyPatterns option) = max_patterns < length (patterns_in option options.filter)
+IsCallFault folder options names file (LongPattern option) = (pattern : List ℕ) × Contains (patterns_in option options.filter) pattern × (max_pattern_bytes < length pattern)
+IsCallFault folder options names file (NoRate option word) = (limit_in option options.limits ≡ Some word.now) × (IsRate word.now → ⊥)
+IsCallFault folder options names file (BadPath fault word) = Contains options.paths word.now × IsRuleFault word.now fault
+IsCallFault folder options names file (BadTest test) = (options.test ≡ Some test.now) × (IsGoodTest test.now → ⊥)
+IsCallFault folder options names file (NoRoom option) = (file ≡ None) × AsksForOverview option options
+IsCallFault folder options names file NoName = names ≡ []
+IsCallFault folder options names file (Twice name) = IsTwice names name.now
+IsCallFault folder options names file (OneFile first second) = AreOneFile folder names first.now second.now
+IsCallFault folder options names file (UnreadList list) = ⊥
+IsCallFault folder options names file (LongList list) = ⊥
+IsCallFault folder options names file (NotText list number) = ⊥
+
+-- the fault is that two names are of one file
+abbrev pub IsOneFile : CallFault → Type 0
+IsOneFile (OneFile first second) = Unit {0}
+IsOneFile other = ⊥
 
 -- ---- the work
 
@@ -79,10 +91,12 @@ limits_of limits = record { lines = limits.lines; functions = limits.functions; 
 abbrev pub AreRulesOf : (words : List (List ℕ)) → List RuleData → Type 0
 AreRulesOf words rules = map rule_of words ≡ map Some rules
 
--- the work that these options ask for, all of which do
-pub record IsWorkOf (options : CombineOptions) (strictness : Strictness) (file : Option (List ℕ)) (work : CombineData) : Type 0 where
-  pub faultless : (fault : CallFault) → IsCallFault options file fault → ⊥
-  pub files : work.files ≡ options.names
+-- the work that these options ask for over the files of these names, all of which do. Whether two names are of one file is judged by the
+-- ids that the folder gave
+pub record IsWorkOf (folder : FolderData) (options : CombineOptions) (names : List (List ℕ)) (strictness : Strictness) (file : Option (List ℕ)) (work : CombineData) : Type 0 where
+  pub faultless : (fault : CallFault) → IsCallFault folder options names file fault → IsOneFile fault
+  pub apart : AreApart folder names
+  pub files : work.files ≡ names
   pub rules : AreRulesOf options.paths work.new.rules
   pub test : work.new.test ≡ options.test
   pub good : AreGoodNames work.new

@@ -26,9 +26,10 @@ use Rattle.covworkers.specs.Work.{in_front}
 use Rattle.covworkers.specs.declared.late_fault.LateFault.{LateFault}
 use Rattle.covworkers.specs.declared.late_fault.LateFault.TheVariants as late
 use Rattle.covworld.specs.Folder.{FolderData}
+use Rattle.covcombine.specs.FileNames.{AreApart, AreOneFile}
 use Rattle.covcombine.specs.Notes.{IsOfFile, note_of}
 use Rattle.covcombine.specs.Options.{AsksForOverview, IsCallFault, IsTwice}
-use Rattle.covcombine.specs.declared.call_fault.CallFault.TheVariants.{ManyPatterns, LongPattern, NoRate, BadPath, BadTest, NoName, Twice}
+use Rattle.covcombine.specs.declared.call_fault.CallFault.TheVariants.{ManyPatterns, LongPattern, NoRate, BadPath, BadTest, NoRoom, NoName, Twice, OneFile}
 use Rattle.covcombine.specs.declared.call_fault.CallOption.{CallOption}
 use Rattle.covcombine.specs.declared.call_fault.WorkFault.{WorkFault}
 use Rattle.covcombine.specs.declared.call_fault.WorkFault.TheVariants as works
@@ -203,11 +204,27 @@ IsNameFault names (works.Call (Twice name)) = IsTwice names name.now
 IsNameFault names (works.Call other) = ⊥
 IsNameFault names works.Memory = Unit {0}
 
+-- two names of one file, the earlier one first; `None` if the folder told all files apart
+abbrev pub IsOneFileIfAny : FolderData → List (List ℕ) → Option (List ℕ × List ℕ) → Type 0
+IsOneFileIfAny folder names None = AreApart folder names
+IsOneFileIfAny folder names (Some same) = AreOneFile folder names same.0 same.1
+
+abbrev pub IsOneFileFault : FolderData → List (List ℕ) → WorkFault → Type 0
+IsOneFileFault folder names (works.Call (OneFile first second)) = AreOneFile folder names first.now second.now
+IsOneFileFault folder names (works.Call other) = ⊥
+IsOneFileFault folder names works.Memory = Unit {0}
+
 -- there is a file, or no option asks for an overview
 abbrev pub HasRoom : CombineOptions → (file : Option (List ℕ)) → Type 0
 HasRoom options file = (option : CallOption) → file ≡ None → AsksForOverview option options → ⊥
 
+-- an option asks for an overview, and there is no file
+abbrev pub IsRoomFault : CombineOptions → (file : Option (List ℕ)) → WorkFault → Type 0
+IsRoomFault options file (works.Call (NoRoom option)) = (file ≡ None) × AsksForOverview option options
+IsRoomFault options file (works.Call other) = ⊥
+IsRoomFault options file works.Memory = ⊥
+
 -- the work isn't begun: for a fault of the call, or since memory ran out
-abbrev pub IsWorkFault : CombineOptions → (file : Option (List ℕ)) → WorkFault → Type 0
-IsWorkFault options file (works.Call fault) = IsCallFault options file fault
-IsWorkFault options file works.Memory = Unit {0}
+abbrev pub IsWorkFault : FolderData → CombineOptions → (names : List (List ℕ)) → (file : Option (List ℕ)) → WorkFault → Type 0
+IsWorkFault folder options names file (works.Call fault) = IsCallFault folder options names file fault
+IsWorkFault folder options names file works.Memory = Unit {0}

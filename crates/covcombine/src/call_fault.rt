@@ -61,6 +61,14 @@ pub(crate) enum CallFault<'a> {
     NoName,
     /// This file is named twice.
     Twice(&'a str),
+    /// Two names of one file: the first one, and another one.
+    OneFile(&'a str, &'a str),
+    /// The list of names can't be read. Standard input has a name in words.
+    UnreadList(&'a [u8]),
+    /// The list of names has more than 64 MiB.
+    LongList(&'a [u8]),
+    /// In the list of names, the name with this number isn't UTF-8.
+    NotText(&'a [u8], u64),
 }
 
 /// Why the work of a call can't begin.

@@ -78,6 +78,7 @@ pub(crate) fn end_for_fault<'b, T: Table<Global>>(
             put_expected(u64::from(number), 0, &mut lines)?;
             Ok(Ending::Fails { status: 5, lines })
         }
+        (_, CallFault::UnreadList(_)) => Ok(Ending::Fails { status: 1, lines }),
         _ => Ok(Ending::Fails { status: 2, lines }),
     }
 }

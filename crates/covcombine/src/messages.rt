@@ -354,6 +354,12 @@ pub(crate) fn put_call_fault(fault: CallFault<'_>, lines: &mut Bytes) -> Result<
             lines.append(b"error: no file is named: did a pattern match nothing?\n")
         }
         CallFault::Twice(name) => put_told(name.as_bytes(), b"named twice", lines),
+        CallFault::OneFile(first, name) => put_one_file(first.as_bytes(), name.as_bytes(), lines),
+        CallFault::UnreadList(list) => put_unreadable(list, lines),
+        CallFault::LongList(list) => put_told(list, b"more than 64 MiB", lines),
+        CallFault::NotText(list, number) => {
+            put_told_at(list, number, b"the name isn't UTF-8", lines)
+        }
     }
 }
 
@@ -364,6 +370,16 @@ fn put_error(option: CallOption, words: &[u8], lines: &mut Bytes) -> Result<(), 
     lines.append(b"error: ")?;
     lines.append(option.name())?;
     lines.append(words)?;
+    lines.append(b"\n")
+}
+
+/// Appends the line about the file called `name`, which was named before, as `first`.
+fn put_one_file(first: &[u8], name: &[u8], lines: &mut Bytes) -> Result<(), Memory>
+    ensures { OnOk result (lines.new ≡ lines.old ++ told name.now (codes "the same file as " ++ shown_name first.now)) }
+{
+    put_name(name, lines)?;
+    lines.append(b"the same file as ")?;
+    put_shown_name(first, lines)?;
     lines.append(b"\n")
 }
 

@@ -9,8 +9,10 @@ ghost use Rattle.covpaths.specs.Paths.{IsGoodRule, rule_of as rule_of_word};
 ghost use Rattle.covreport.specs.ChoiceView.{choice_data};
 ghost use Rattle.covcombine.specs.declared.call_fault.CallOption.{CallOption as AnOption};
 ghost use Rattle.covcombine.specs.Options.{AreRulesOf, IsWorkOf, choice_by, limits_of as limits_with, limit_in, patterns_in};
-ghost use Rattle.covcombine.specs.Steps.{AreNames, ArePatterns, HasRoom, IsNameFault, IsNewNameFault, IsPatternFault, IsRateFault, IsTestFault, IsTwiceIfAny, IsWordFault, IsWorkFault, of_pattern};
+ghost use Rattle.covcombine.specs.Steps.{AreNames, ArePatterns, HasRoom, IsNameFault, IsNewNameFault, IsPatternFault, IsOneFileFault, IsOneFileIfAny, IsRateFault, IsRoomFault, IsTestFault, IsTwiceIfAny, IsWordFault, IsWorkFault, of_pattern};
+ghost use Rattle.covcombine.specs.FileNames.{AreApart};
 ghost use Rattle.covcombine.specs.View.{work_data};
+ghost use Rattle.covworld.specs.Folder.{folder_data};
 
 use crate::call_fault::{CallFault, CallOption, WorkFault};
 use covcommand::{
@@ -20,8 +22,9 @@ use covdata::{Bytes, Memory, good_test};
 use covlimit::{Limits, Rate};
 use covpaths::{NewNames, PathRule};
 use covreport::{Choice, PatternFault, Patterns};
+use covworld::{FileId, Folder};
 use std::alloc::Global;
-use std::collections::BTreeSet;
+use std::collections::{BTreeMap, BTreeSet};
 
 /// The work of a call.
 #[derive(Drop)]
@@ -44,24 +47,27 @@ pub(crate) struct Work<'a> {
     pub(crate) expected: Option<u32>,
 }
 
-/// Makes the work of `options`. `file` is the name of the output file, if the command line has one. Checks the patterns first, then
+/// Makes the work of `options` over the files called `names`. `file` is the name of the output file, if the command line has one. Checks the patterns first, then
 /// the name of the test, the paths, the thresholds, whether an overview can be shown, and the names of the files.
-pub(crate) fn work_of<'a>(
+pub(crate) fn work_of<'a, F: Folder>(
+    folder: &F,
     alloc: Global,
     options: &'a CombineOptions,
+    names: &'a [String],
     strictness: Strictness,
     file: Option<&str>,
 ) -> Result<Work<'a>, WorkFault<'a>>
-    ensures work { IfOk result (λ work. IsWorkOf options.now strictness (option_map (λ name. name.now) file.entry) (work_data work)) }
-    ensures fault { IfErr result (IsWorkFault options.now (option_map (λ name. name.now) file.entry)) }
+    ensures work { IfOk result (λ work. IsWorkOf (folder_data F.Folder F.File.Source folder.now) options.now (map string_bytes names.now) strictness (option_map (λ name. name.now) file.entry) (work_data work)) }
+    ensures fault { IfErr result (IsWorkFault (folder_data F.Folder F.File.Source folder.now) options.now (map string_bytes names.now) (option_map (λ name. name.now) file.entry)) }
 {
     let choice = choice_of(alloc, &options.filter)?;
     let new_names = new_names_of(alloc, options)?;
     let limits = limits_of(alloc, &options.limits)?;
     check_overview(options, file)?;
-    check_names(alloc, options.names.get())?;
+    check_names(alloc, names)?;
+    check_files(folder, alloc, names)?;
     Ok(Work {
-        files: options.names.get(),
+        files: names,
         new_names,
         strictness,
         choice,
@@ -196,7 +202,7 @@ fn rate_of<'a>(
 /// Checks that no option asks for an overview while standard output has the tracefile.
 fn check_overview<'a>(options: &CombineOptions, file: Option<&str>) -> Result<(), WorkFault<'a>>
     ensures room { IfOk result (λ _. HasRoom options.now (option_map (λ name. name.now) file.entry)) }
-    ensures fault { IfErr result (IsWorkFault options.now (option_map (λ name. name.now) file.entry)) }
+    ensures fault { IfErr result (IsRoomFault options.now (option_map (λ name. name.now) file.entry)) }
 {
     match (file, options.overview, options.form) {
         (Some(_), _, _) => Ok(()),
@@ -233,6 +239,42 @@ fn named_twice<'a>(alloc: Global, names: &'a [String]) -> Result<Option<&'a str>
         let is_new = seen.insert(name)?;
         if !is_new {
             return Ok(Some(name));
+        }
+    }
+    Ok(None)
+}
+
+/// Checks that no two names are of one file, as far as `folder` tells files apart.
+fn check_files<'a, F: Folder>(
+    folder: &F,
+    alloc: Global,
+    names: &'a [String],
+) -> Result<(), WorkFault<'a>>
+    ensures apart { IfOk result (λ _. AreApart (folder_data F.Folder F.File.Source folder.now) (map string_bytes names.now)) }
+    ensures fault { IfErr result (IsOneFileFault (folder_data F.Folder F.File.Source folder.now) (map string_bytes names.now)) }
+{
+    let same = one_file(folder, alloc, names)?;
+    match same {
+        Some((first, name)) => Err(WorkFault::Call(CallFault::OneFile(first, name))),
+        None => Ok(()),
+    }
+}
+
+/// The first name that is of the same file as an earlier one, after that one.
+fn one_file<'a, F: Folder>(
+    folder: &F,
+    alloc: Global,
+    names: &'a [String],
+) -> Result<Option<(&'a str, &'a str)>, Memory>
+    ensures { IfOk result (λ same. IsOneFileIfAny (folder_data F.Folder F.File.Source folder.now) (map string_bytes names.now) (option_map (λ s. (s.0.now, s.1.now)) same)) }
+{
+    let mut seen: BTreeMap<FileId, &str> = BTreeMap::new(alloc);
+    for word in names {
+        let name = word.as_str();
+        if let Some(id) = folder.look(name) {
+            if let Some(first) = seen.insert(id, name)? {
+                return Ok(Some((first, name)));
+            }
         }
     }
     Ok(None)

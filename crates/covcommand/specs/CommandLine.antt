@@ -173,9 +173,21 @@ one_test = limit (codes "one-test")
 abbrev pub naming : App
 naming = with_rule (with_rule reading paths) one_test
 
+-- `--files-from LIST`. It may be given once, or not at all
+abbrev pub files_from : Rule
+files_from = limit (codes "files-from")
+
+-- `--null` or `-0`. 48 is the code of `0`
+abbrev pub null : Rule
+null = record (flag (codes "null")) { short = Some 48 }
+
+-- and a list of names
+abbrev pub listed : App
+listed = with_rule (with_rule naming files_from) null
+
 -- and what is shown
 abbrev pub showing : App
-showing = with_rule (with_rule (with_rule naming (flag (codes "list"))) json) quiet
+showing = with_rule (with_rule (with_rule listed (flag (codes "list"))) json) quiet
 
 -- and limits
 abbrev pub combine : App

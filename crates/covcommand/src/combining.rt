@@ -20,13 +20,21 @@ pub(crate) fn combine<'a>(alloc: Global) -> Result<Command<'a>, AllocError>
     taking(taking(taking(combine, lines), functions), branches)
 }
 
-/// Returns `combine` without thresholds: that of `naming` with three flags for what is shown.
+/// Returns `combine` without thresholds: that of `listed` with three flags for what is shown.
 fn showing<'a>(alloc: Global) -> Result<Command<'a>, AllocError>
     ensures { IfOk result (HasNoGlobals line.showing) }
 {
-    let showing = taking(naming(alloc), flag(alloc, "list", help::SHOW_LIST));
+    let showing = taking(listed(alloc), flag(alloc, "list", help::SHOW_LIST));
     let showing = taking(showing, json(alloc));
     taking(showing, quiet(alloc))
+}
+
+/// Returns that of `naming` with the options for a list of names.
+fn listed<'a>(alloc: Global) -> Result<Command<'a>, AllocError>
+    ensures { IfOk result (HasNoGlobals line.listed) }
+{
+    let listed = taking(naming(alloc), files_from(alloc));
+    taking(listed, null(alloc))
 }
 
 /// Returns that of `reading` with the options for the names under which counts are added up.
@@ -105,6 +113,28 @@ fn one_test<'a>(alloc: Global) -> Arg<'a>
         .value_name("NAME")
         .action(ArgAction::Set)
         .help(help::ONE_TEST)
+}
+
+/// `--files-from LIST`, the file that lists names.
+fn files_from<'a>(alloc: Global) -> Arg<'a>
+    ensures { IsRule line.files_from result }
+{
+    Arg::new(alloc, "files-from")
+        .long("files-from")
+        .value_name("LIST")
+        .action(ArgAction::Set)
+        .help(help::FILES_FROM)
+}
+
+/// The flag `--null` or `-0`: names in a list end at NUL bytes.
+fn null<'a>(alloc: Global) -> Arg<'a>
+    ensures { IsRule line.null result }
+{
+    Arg::new(alloc, "null")
+        .short('0')
+        .long("null")
+        .action(ArgAction::SetTrue)
+        .help(help::NULL)
 }
 
 /// The flag `--quiet` or `-q`: no progress is shown.

@@ -254,6 +254,14 @@ pub(crate) const ONE_TEST: &str = "\
 Count all as of one test, by itself as of the
 empty name: --one-test, or --one-test=NAME";
 
+/// The help of `--files-from`.
+pub(crate) const FILES_FROM: &str = "\
+Read the files that LIST names too, one on
+each line; - is standard input";
+
+/// The help of `--null`.
+pub(crate) const NULL: &str = "Names in LIST end at NUL bytes";
+
 /// The help of `--expect`.
 pub(crate) const EXPECT: &str = "Status 5 unless N files are read";
 

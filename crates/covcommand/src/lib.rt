@@ -30,8 +30,8 @@ mod spelling;
 mod word;
 
 pub use asked::{
-    Asked, CombineOptions, Command, Limits, Overview, PageOptions, SourceFilter, Strictness,
-    TextFormat, TextSize, TotalsForm,
+    Asked, CombineOptions, Command, Limits, NameEnd, Overview, PageOptions, SourceFilter,
+    Strictness, TextFormat, TextSize, TotalsForm,
 };
 pub use covdata::LcovVersion;
 pub use fault::CommandFault;

@@ -230,7 +230,7 @@ IsShown folder work pages status old new =
     × IsAnswer work texts (Ok c) × (ending_of None work (Ok c) ≡ Prints text) × (new.input ≡ old.input) × (new.files.begun ≡ old.files.begun)
     × PagesEnd (pages_work folder work pages) (content_at (table_of (ops_in c.entries))) status old new)
 
--- what a call does for its task. Only a session reads the input, and only collecting and combining write a file. Checking files reports each
+-- what a call does for its task. Only a session reads the input, and combining a list in it, and only collecting and combining write a file. Checking files reports each
 -- file. Showing files writes a folder
 abbrev pub IsTaskDone : FolderData → TaskData → (file : Option (List ℕ)) → (status : ℕ) → WorldData → WorldData → Type 0
 IsTaskDone folder Serves file status old new = IsServed status old new

@@ -57,7 +57,8 @@ use std::thread::Threads;
 ///
 /// The run collects or checks the content of the files on the command line, if `folder` knows its files' bytes.
 ///
-/// A run without a subcommand is a session over the input and the output. Only a session reads the input. The output is flushed,
+/// A run without a subcommand is a session over the input and the output. Only a session reads the input, and
+/// `combine` for a list of names in it. The output is flushed,
 /// the error stream isn't. `run` returns only after all jobs have ended.
 ///
 /// The caller names the store `T` that keeps the counts. The contract is the same for every store.

@@ -46,6 +46,9 @@ covcollect combine --jobs=64 --expect=1048576 a.info => combine jobs(64) expecte
 covcollect combine --path /a=/b --path=/c= a.info => combine path[/a=/b] path[/c=] [a.info] large
 covcollect combine --one-test=all a.info => combine test(all) [a.info] large
 covcollect combine --one-test= a.info => combine test() [a.info] large
+covcollect combine --files-from - a.info => combine list[-] [a.info] large
+covcollect combine -0 --files-from=names => combine list0[names] large
+covcollect combine --null --files-from names a.info => combine list0[names] [a.info] large
 covcollect combine --strict -q a.info => combine [a.info] strict large
 covcollect combine --quiet a.info --json --list => combine list json [a.info] large
 covcollect combine --include '*.c' --exclude '/usr/*' --fail-under-lines 80 a.info => combine +[*.c] -[/usr/*] lines(80) [a.info] large
