@@ -61,7 +61,7 @@ use crate::jobs::jobs_for;
 use crate::report::report;
 use crate::tracefile::tracefiles;
 use crate::work::{Work, work_of};
-use covcommand::{CombineOptions, Strictness};
+use covcommand::{CombineOptions, Progress, Strictness};
 use covreport::Table;
 use covstream::{Sink, Source};
 use covworkers::{IntoBookFault, NoGate, collect_into_book};
@@ -201,7 +201,15 @@ fn do_work<
     let Ok(inputs) = tracefiles(folder, alloc, &work.new_names, work.strictness, work.files) else {
         return report::<P, I, O, E, T>(alloc, no_memory(), file, world);
     };
-    match collect_into_book(rt, alloc, inputs, jobs, &NoGate) {
+    let shows = shows_progress(work.progress);
+    if shows {
+        folder.begin_reading(work.files);
+    }
+    let collected = collect_into_book(rt, alloc, inputs, jobs, &NoGate);
+    if shows {
+        folder.end_reading();
+    }
+    match collected {
         Ok(collected) => match end_of::<T>(alloc, work, &collected) {
             Ok(ending) => report(alloc, ending, file, world),
             Err(_) => report::<P, I, O, E, T>(alloc, no_memory(), file, world),
@@ -211,5 +219,13 @@ fn do_work<
         }
         // A file that can't be read has a note.
         Err(IntoBookFault::Unread { .. }) => unreachable!(),
+    }
+}
+
+/// Whether the folder is told how far reading is.
+fn shows_progress(progress: Progress) -> bool {
+    match progress {
+        Progress::Shown => true,
+        Progress::Quiet => false,
     }
 }

@@ -16,7 +16,7 @@ ghost use Rattle.covworld.specs.Folder.{folder_data};
 
 use crate::call_fault::{CallFault, CallOption, WorkFault};
 use covcommand::{
-    CombineOptions, Limits as LimitWords, Overview, SourceFilter, Strictness, TotalsForm,
+    CombineOptions, Limits as LimitWords, Overview, Progress, SourceFilter, Strictness, TotalsForm,
 };
 use covdata::{Bytes, Memory, good_test};
 use covlimit::{Limits, Rate};
@@ -45,6 +45,8 @@ pub(crate) struct Work<'a> {
     pub(crate) limits: Limits,
     /// How many files have to be read.
     pub(crate) expected: Option<u32>,
+    /// Whether a terminal shows how much is read.
+    pub(crate) progress: Progress,
 }
 
 /// Makes the work of `options` over the files called `names`. `file` is the name of the output file, if the command line has one. Checks the patterns first, then
@@ -75,6 +77,7 @@ pub(crate) fn work_of<'a, F: Folder>(
         form: options.form,
         limits,
         expected: options.expected,
+        progress: options.progress,
     })
 }
 

@@ -418,6 +418,7 @@ combine_leaves words none =
       expected = has_number_if_any (codes "expect") 1048576 rows refl left.fit;
       strict = flag_left left (codes "strict") refl refl;
       null = flag_left left (codes "null") refl refl;
+      quiet = flag_left left (codes "quiet") refl refl;
       list = flag_left left (codes "list") refl refl;
       json = flag_left left (codes "json") refl refl;
     }

@@ -21,6 +21,8 @@ use Rattle.covcommand.specs.declared.asked.TextSize.TheVariants.{Limited, Large}
 use Rattle.covcommand.specs.declared.asked.TotalsForm.{TotalsForm}
 use Rattle.covcommand.specs.declared.asked.TotalsForm.TheVariants.{Words, Json}
 use Rattle.covcommand.specs.declared.asked.Limits.{Limits}
+use Rattle.covcommand.specs.declared.asked.Progress.{Progress}
+use Rattle.covcommand.specs.declared.asked.Progress.TheVariants as progresses
 use Rattle.covcommand.specs.declared.asked.NameEnd.{NameEnd}
 use Rattle.covcommand.specs.declared.asked.NameEnd.TheVariants as ends
 use Rattle.covcommand.specs.declared.asked.TextFormat.{TextFormat}
@@ -96,7 +98,12 @@ abbrev pub IsNamesEndOf : List Row → NameEnd → Type 0
 IsNamesEndOf rows ends.LineFeed = one_of (codes "null") rows ≡ Some (codes "false")
 IsNamesEndOf rows ends.Null = one_of (codes "null") rows ≡ Some (codes "true")
 
--- what the rows of `combine` ask for. `--quiet` changes nothing
+-- no progress is shown if clap sets the flag `--quiet`
+abbrev pub IsProgressOf : List Row → Progress → Type 0
+IsProgressOf rows progresses.Shown = one_of (codes "quiet") rows ≡ Some (codes "false")
+IsProgressOf rows progresses.Quiet = one_of (codes "quiet") rows ≡ Some (codes "true")
+
+-- what the rows of `combine` ask for
 pub record AsksToCombine (rows : List Row) (options : CombineOptions) : Type 0 where
   pub jobs : IsNumberIfAny (codes "jobs") rows options.jobs
   pub expected : IsNumberIfAny (codes "expect") rows options.expected
@@ -104,6 +111,7 @@ pub record AsksToCombine (rows : List Row) (options : CombineOptions) : Type 0 w
   pub names_end : IsNamesEndOf rows options.names_end
   pub paths : options.paths ≡ values_of (codes "path") rows
   pub test : IsTextIfAny (codes "one-test") rows options.test
+  pub progress : IsProgressOf rows options.progress
   pub filter : IsFilterOf rows options.filter
   pub overview : IsOverviewOf rows options.overview
   pub form : IsFormOf rows options.form

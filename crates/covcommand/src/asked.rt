@@ -122,6 +122,8 @@ pub struct CombineOptions {
     pub paths: Names,
     /// `--one-test`: the test that all counts get, or `None` if each keeps its own.
     pub test: Option<Bytes>,
+    /// Whether a terminal shows how much is read.
+    pub progress: Progress,
     /// Which source files are printed and counted.
     pub filter: SourceFilter,
     /// What is shown of the merged tracefile if it goes into a file.
@@ -132,6 +134,15 @@ pub struct CombineOptions {
     pub limits: Limits,
     /// The files' paths, which may be none.
     pub names: Names,
+}
+
+/// Whether a terminal shows how much of the files is read.
+#[derive(Clone, Copy)]
+pub enum Progress {
+    /// Without `--quiet`.
+    Shown,
+    /// With `--quiet`.
+    Quiet,
 }
 
 /// Where a name in a list of names ends.

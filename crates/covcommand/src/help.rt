@@ -269,7 +269,7 @@ pub(crate) const EXPECT: &str = "Status 5 unless N files are read";
 pub(crate) const SHOW_LIST: &str = "List each source file, with -o";
 
 /// The help of `--quiet`.
-pub(crate) const QUIET: &str = "Show no progress (today none is shown)";
+pub(crate) const QUIET: &str = "Show no progress on a terminal";
 
 /// The help of `--fail-under-lines`.
 pub(crate) const FAIL_UNDER_LINES: &str = "Status 6 if less than N% of lines are hit";

@@ -30,7 +30,7 @@ mod spelling;
 mod word;
 
 pub use asked::{
-    Asked, CombineOptions, Command, Limits, NameEnd, Overview, PageOptions, SourceFilter,
+    Asked, CombineOptions, Command, Limits, NameEnd, Overview, PageOptions, Progress, SourceFilter,
     Strictness, TextFormat, TextSize, TotalsForm,
 };
 pub use covdata::LcovVersion;

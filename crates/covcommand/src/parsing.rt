@@ -4,13 +4,13 @@ ghost use Rattle.std.specs.Prelude.{◌≡◌, ◌≢◌, ◌≤◌, ◌++◌, [
 ghost use Rattle.std.specs.String.{string_bytes};
 ghost use Rattle.clap.specs.Words.{rows_of, found_of, subcommand_of, takes, fault_of, first_of};
 ghost use Rattle.covcommand.specs.CommandLine.{covcollect};
-ghost use Rattle.covcommand.specs.Asked.{AreLimitsOf, ArePagesOf, AsksFor, AsksToCombine, GoesTo, HasSize, HasStrictness, IsFilterOf, IsFormOf, IsFormatOf, IsInBounds, IsListOf, IsNamesEndOf, IsNumberIfAny, IsNumberOf, IsOutputOf, IsOverviewOf, IsSizeOf, IsStrictnessOf, IsTextIfAny, IsUpToIfAny, IsVersionOf, rows_met, tracefile_and_patterns, values_of};
+ghost use Rattle.covcommand.specs.Asked.{AreLimitsOf, ArePagesOf, AsksFor, AsksToCombine, GoesTo, HasSize, HasStrictness, IsFilterOf, IsFormOf, IsFormatOf, IsInBounds, IsListOf, IsNamesEndOf, IsNumberIfAny, IsNumberOf, IsOutputOf, IsOverviewOf, IsProgressOf, IsSizeOf, IsStrictnessOf, IsTextIfAny, IsUpToIfAny, IsVersionOf, rows_met, tracefile_and_patterns, values_of};
 ghost use Rattle.covcommand.specs.Found.{Fits, HasCombining, HasFilter, HasFlag, HasFolder, HasJobs, HasNumberIfAny, HasSome, HasTest, TellsFlags};
 ghost use Rattle.covcommand.specs.Fault.{IsFaultAmong};
 ghost use Rattle.covcommand.specs.declared.fault.CommandFault.TheVariants as faults;
 
 use crate::asked::{
-    Asked, CombineOptions, Command, Limits, NameEnd, Overview, PageOptions, SourceFilter,
+    Asked, CombineOptions, Command, Limits, NameEnd, Overview, PageOptions, Progress, SourceFilter,
     Strictness, TextFormat, TextSize, TotalsForm,
 };
 use crate::described::described;
@@ -217,6 +217,7 @@ fn combine_options_of(alloc: Global, found: &ArgMatches<'_>) -> Result<CombineOp
         names_end: names_end_of(found),
         paths: patterns_of(alloc, found, "path")?,
         test: text_if_any(alloc, found, "one-test")?,
+        progress: progress_of(found),
         filter: source_filter_of(alloc, found)?,
         overview: overview_of(found),
         form: form_of(found),
@@ -262,6 +263,18 @@ fn names_end_of(found: &ArgMatches<'_>) -> NameEnd
         NameEnd::Null
     } else {
         NameEnd::LineFeed
+    }
+}
+
+/// Whether progress is shown: not if clap found the flag `--quiet`.
+fn progress_of(found: &ArgMatches<'_>) -> Progress
+    requires { HasFlag (codes "quiet") (rows_of (found_of found.now)) }
+    ensures { IsProgressOf (rows_of (found_of found.now)) result }
+{
+    if found.get_flag("quiet") {
+        Progress::Quiet
+    } else {
+        Progress::Shown
     }
 }
 

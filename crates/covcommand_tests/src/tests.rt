@@ -5,7 +5,7 @@
 
 use covcommand::{
     Asked, CombineOptions, Command, CommandFault, LcovVersion, Limits, NameEnd, Names, Overview,
-    PageOptions, SourceFilter, Strictness, TextFormat, TextSize, TotalsForm, command,
+    PageOptions, Progress, SourceFilter, Strictness, TextFormat, TextSize, TotalsForm, command,
 };
 use std::alloc::Global;
 use std::fmt::Write;
@@ -190,6 +190,7 @@ fn put_combine(rt: &impl Abort, text: &mut String, options: &CombineOptions) {
     }
     put_each(rt, text, " +[", &options.filter.includes);
     put_each(rt, text, " -[", &options.filter.excludes);
+    put(rt, text, progress_word(&options.progress));
     put(rt, text, overview_word(&options.overview));
     put_summary(rt, text, &options.form, &options.limits, &options.names);
 }
@@ -208,6 +209,14 @@ fn list_mark(names_end: &NameEnd) -> &'static str {
     match names_end {
         NameEnd::LineFeed => " list[",
         NameEnd::Null => " list0[",
+    }
+}
+
+/// The word for a call that shows no progress.
+fn progress_word(progress: &Progress) -> &'static str {
+    match progress {
+        Progress::Shown => "",
+        Progress::Quiet => " quiet",
     }
 }
 

@@ -64,6 +64,12 @@ pub trait Folder {
     /// Which file `name` is of, or `None` if that isn't known. Doesn't open the file.
     fn look(&self, name: &str) -> Option<FileId>
         ensures { may_be self.now name.now result };
+
+    /// Says that the files called `names` are read from now on. A folder may show how far this is, which no contract speaks of.
+    fn begin_reading(&self, _names: &[String]) {}
+
+    /// Says that all these files are read.
+    fn end_reading(&self) {}
 }
 
 /// The file system of std as a folder.

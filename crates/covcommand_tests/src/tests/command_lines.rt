@@ -49,8 +49,8 @@ covcollect combine --one-test= a.info => combine test() [a.info] large
 covcollect combine --files-from - a.info => combine list[-] [a.info] large
 covcollect combine -0 --files-from=names => combine list0[names] large
 covcollect combine --null --files-from names a.info => combine list0[names] [a.info] large
-covcollect combine --strict -q a.info => combine [a.info] strict large
-covcollect combine --quiet a.info --json --list => combine list json [a.info] large
+covcollect combine --strict -q a.info => combine quiet [a.info] strict large
+covcollect combine --quiet a.info --json --list => combine quiet list json [a.info] large
 covcollect combine --include '*.c' --exclude '/usr/*' --fail-under-lines 80 a.info => combine +[*.c] -[/usr/*] lines(80) [a.info] large
 covcollect combine -- -q => combine [-q] large
 covcollect combine -j 0 a.info => 2 2 error: invalid value '0' for '--jobs <N>': 0 is not in 1..=64
