@@ -21,8 +21,9 @@ use Rattle.covcombine.specs.declared.call_fault.CallFault.TheVariants.{ManyPatte
 use Rattle.covcombine.specs.declared.call_fault.CallOption.{CallOption}
 use Rattle.covcombine.specs.declared.call_fault.CallOption.TheVariants.{Include, Exclude, FailUnderLines, FailUnderFunctions, FailUnderBranches, List as ShowList, Json as PrintJson}
 
--- what a call has to do. `files`: the files to read. `new`: the names under which counts are added up. `choice`: the source files that are printed and counted. `overview` and `form`: what
--- standard output has if the tracefile goes into a file. `expected`: how many files have to be read
+-- what a call has to do. `files`: the files to read. `new`: the names under which counts are added up. `choice`: the source files
+-- that are printed and counted. `overview` and `form`: what standard output has if the tracefile goes into a file. `expected`: how
+-- many files have to be read
 pub record CombineData : Type 0 where
   pub files : List (List ℕ)
   pub new : NamesData

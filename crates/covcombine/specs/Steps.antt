@@ -117,8 +117,8 @@ pub record IsOpenedFor {S : Type 0} (left : S → Option (List ℕ)) (failed_rea
   pub gives : (outcome : OutcomeData Note) → MayGiveOpened left failed_reads new opened outcome → MayGiveFrom left failed_reads folder new strictness name stage outcome
   pub most : opened.rest.left ≡ most_parts stage
 
--- a piece of an opened tracefile was read, this is its submission with its new names, and this is the next stage: whatever that gives, the tracefile may give with
--- the submission in front
+-- a piece of an opened tracefile was read, this is its submission with its new names, and this is the next stage: whatever that
+-- gives, the tracefile may give with the submission in front
 pub record IsNextStage {S : Type 0} (left : S → Option (List ℕ)) (failed_reads : S → ℕ) (new : NamesData) (opened : Opened S) (submission : SubmissionData) (stage : Stage S) : Type 0 where
   pub later : IsLater stage
   pub fewer : most_parts stage < opened.rest.left

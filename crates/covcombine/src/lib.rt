@@ -1,8 +1,9 @@
 //! The call `combine`: merges the tracefiles of many jobs, checks each of them, and shows how much is hit.
 //!
-//! `combine` takes the names of the files from its words and its list (`file_names`), and makes `Work` of the options (`work`). covworkers collects the files in a book; a `Tracefile` reads a file when its turn
-//! comes, and ends with a `Note` of what came of the file. An `Ending` is made of the book and the notes (`ending`), and is reported
-//! on the streams and in the output file (`report`). `messages` has all lines of the error stream.
+//! `combine` takes the names of the files from its words and its list (`file_names`), and makes `Work` of the options (`work`).
+//! covworkers collects the files in a book; a `Tracefile` reads a file when its turn comes, gives each chunk its new names (covpaths),
+//! and ends with a `Note` of what came of the file. An `Ending` is made of the book and the notes (`ending`), and is reported on the
+//! streams and in the output file (`report`). `messages` has all lines of the error stream.
 //!
 //! No function names a store: all are generic over covreport's `Table`.
 //!

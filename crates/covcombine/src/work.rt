@@ -49,8 +49,9 @@ pub(crate) struct Work<'a> {
     pub(crate) progress: Progress,
 }
 
-/// Makes the work of `options` over the files called `names`. `file` is the name of the output file, if the command line has one. Checks the patterns first, then
-/// the name of the test, the paths, the thresholds, whether an overview can be shown, and the names of the files.
+/// Makes the work of `options` over the files called `names`. `file` is the name of the output file, if the command line has one.
+/// Checks the patterns first, then the name of the test, the paths, the thresholds, whether an overview can be shown, and the names
+/// of the files.
 pub(crate) fn work_of<'a, F: Folder>(
     folder: &F,
     alloc: Global,

@@ -163,7 +163,8 @@ abbrev pub IsEndingReported : (file : Option (List ℕ)) → EndingData → (sta
 IsEndingReported None ending status old new = ChangesSinksAlone old new × IsEndingPrinted ending status old.sinks new.sinks
 IsEndingReported (Some name) ending status old new = (new.input ≡ old.input) × IsEndingWritten name ending status old new
 
--- what covcommand makes of words as clap takes them: this command, its strictness, whether files are read in pieces, and the file for its text, or this fault
+-- what covcommand makes of words as clap takes them: this command, its strictness, whether files are read in pieces, and the file
+-- for its text, or this fault
 pub record AreParsed (words : List (List ℕ)) (parsed : Result Asked CommandFault) : Type 0 where
   pub asks : IfOk parsed (λ asked. AsksFor (subcommand_of covcollect words) asked.command)
   pub strictness : IfOk parsed (λ asked. HasStrictness (rows_met (subcommand_of covcollect words)) asked.command asked.strictness)
@@ -230,8 +231,8 @@ IsShown folder work pages status old new =
     × IsAnswer work texts (Ok c) × (ending_of None work (Ok c) ≡ Prints text) × (new.input ≡ old.input) × (new.files.begun ≡ old.files.begun)
     × PagesEnd (pages_work folder work pages) (content_at (table_of (ops_in c.entries))) status old new)
 
--- what a call does for its task. Only a session reads the input, and combining a list in it, and only collecting and combining write a file. Checking files reports each
--- file. Showing files writes a folder
+-- what a call does for its task. Only a session reads the input, and combining a list in it, and only collecting and combining
+-- write a file. Checking files reports each file. Showing files writes a folder
 abbrev pub IsTaskDone : FolderData → TaskData → (file : Option (List ℕ)) → (status : ℕ) → WorldData → WorldData → Type 0
 IsTaskDone folder Serves file status old new = IsServed status old new
 IsTaskDone folder (Collects work) file status old new = IsWorkDone folder work file status old new
