@@ -1,5 +1,5 @@
 -- A closed section gets another name.
-use Rattle.std.proofs.Common.{◌≡◌, ℕ, zero, suc, ◌+◌, ◌<◌, List, [], ◌∷◌, length, take, drop, get_or, slice_set, refl, sym, ap, ◌∙◌, subst, arith}
+use Rattle.std.proofs.Common.{◌≡◌, ℕ, zero, suc, ◌+◌, ◌<◌, ◌≤◌, List, [], ◌∷◌, length, take, drop, get_or, slice_set, refl, sym, ap, ◌∙◌, subst, arith}
 use Rattle.std.specs.List.{AllByRecursion}
 use Rattle.std.specs.Prelude.{Option, None, Some, option_map, slice_get}
 use Rattle.covdata.specs.Row.{ItemData, SectData}
@@ -82,14 +82,14 @@ module _ (texts : List ℕ) (s : ClosedSect) (place : TextPlace) (name : List �
 
 -- ---- reading a section's file
 
-pub file_found : (texts : List ℕ) (items : List ItemData) (sects : List ClosedSect) (index : ℕ) (s : ClosedSect) → slice_get sects index ≡ Some s
+pub file_found : (texts : List ℕ) (items : List ItemData) (sects : List ClosedSect) (index : ℕ) (s : ClosedSect) → index < length sects → s ≡ get_or sects index s
     → option_map (λ (sect : SectData). sect.file) (slice_get (sects_of texts items sects) index) ≡ Some (text_at texts s.file.begin s.file.bytes)
-file_found texts items [] index s found = absurd cc
-file_found texts items (t ∷ sects) zero s found = ap (λ (o : Option ClosedSect). option_map (λ (u : ClosedSect). text_at texts u.file.begin u.file.bytes) o) found
-file_found texts items (t ∷ sects) (suc index) s found = file_found texts (drop t.items items) sects index s found
+file_found texts items [] index s within found = absurd (omega (arith, within))
+file_found texts items (t ∷ sects) zero s within found = ap (λ (u : ClosedSect). Some (text_at texts u.file.begin u.file.bytes)) (sym found)
+file_found texts items (t ∷ sects) (suc index) s within found = file_found texts (drop t.items items) sects index s (omega (arith, within)) found
 
-pub no_file_found : (texts : List ℕ) (items : List ItemData) (sects : List ClosedSect) (index : ℕ) → slice_get sects index ≡ None
+pub no_file_found : (texts : List ℕ) (items : List ItemData) (sects : List ClosedSect) (index : ℕ) → length sects ≤ index
     → option_map (λ (sect : SectData). sect.file) (slice_get (sects_of texts items sects) index) ≡ None
-no_file_found texts items [] index found = refl
-no_file_found texts items (t ∷ sects) zero found = absurd cc
-no_file_found texts items (t ∷ sects) (suc index) found = no_file_found texts (drop t.items items) sects index found
+no_file_found texts items [] index beyond = refl
+no_file_found texts items (t ∷ sects) zero beyond = absurd (omega (arith, beyond))
+no_file_found texts items (t ∷ sects) (suc index) beyond = no_file_found texts (drop t.items items) sects index (omega (arith, beyond))

@@ -272,8 +272,13 @@ impl<A: Allocator> PackedSects<A> {
     pub fn file_at(&self, index: usize) -> Option<&[u8]>
         ensures { option_map (λ file. file.now) result ≡ option_map (λ s. s.file) (slice_get self.now.sects index) }
     {
-        let TextPlace { begin, bytes } = self.sects.get(index)?.file;
-        Some(text_at(self.texts.as_slice(), begin, bytes))
+        match self.sects.get(index) {
+            Some(sect) => {
+                let TextPlace { begin, bytes } = sect.file;
+                Some(text_at(self.texts.as_slice(), begin, bytes))
+            }
+            None => None,
+        }
     }
 
     /// Gives the closed section at `index`, which must exist, another source file. Leaves the sections unchanged on `Memory`.
