@@ -1,4 +1,5 @@
 pub mod Lasts
+pub mod Renames
 mod Packing
 mod Layouts
 mod Packeds

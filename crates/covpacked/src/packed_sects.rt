@@ -74,11 +74,12 @@ impl<A: Allocator + Copy> PackedSects<A> {
 }
 
 impl<A: Allocator> PackedSects<A> {
-    ghost use Rattle.std.specs.Prelude.{◌≡◌, ◌<◌, ◌++◌, List, [], ◌∷◌, MatchOption, OnErr, OnOk, length, option_map};
+    ghost use Rattle.std.specs.Prelude.{◌≡◌, ◌<◌, ◌++◌, List, [], ◌∷◌, MatchOption, OnErr, OnOk, length, option_map, slice_get};
     ghost use Rattle.covdata.specs.Row.{LineItem, FuncItem, BranchItem, items_in};
     ghost use Rattle.covpacked.specs.ReadTexts.{IsLastTest};
     ghost use Rattle.covpacked.specs.ItemRefs.{item_ref_data};
     ghost use Rattle.covpacked.specs.OpenItems.{left, start_set};
+    ghost use Rattle.covpacked.specs.NewNames.{file_set, test_set};
     ghost use Rattle.covpacked.specs.Words.{HasItsText, HasNoText, item_of_parts, item_with_text};
 
     /// Appends a line's item to the open section. Leaves the items unchanged on `Memory`.
@@ -264,6 +265,45 @@ impl<A: Allocator> PackedSects<A> {
         let items = self.words.len() - self.closed;
         self.sects.push(ClosedSect { test, file, items })?;
         self.closed = self.words.len();
+        Ok(())
+    }
+
+    /// The source file of the closed section at `index`, or `None` if there are fewer sections.
+    pub fn file_at(&self, index: usize) -> Option<&[u8]>
+        ensures { option_map (λ file. file.now) result ≡ option_map (λ s. s.file) (slice_get self.now.sects index) }
+    {
+        match self.sects.get(index) {
+            Some(sect) => {
+                let TextPlace { begin, bytes } = sect.file;
+                Some(text_at(self.texts.as_slice(), begin, bytes))
+            }
+            None => None,
+        }
+    }
+
+    /// Gives the closed section at `index`, which must exist, another source file. Leaves the sections unchanged on `Memory`.
+    pub fn set_file(&mut self, index: usize, file: &[u8]) -> Result<(), Memory>
+        requires { index < length self.old.sects }
+        ensures sects { OnOk result (self.new.sects ≡ file_set index file.now self.old.sects) }
+        ensures same { OnErr result (self.new.sects ≡ self.old.sects) }
+        ensures items { self.new.items ≡ self.old.items }
+    {
+        let file = append_text(&mut self.texts, file)?;
+        let ClosedSect { test, items, .. } = self.sects[index];
+        self.sects[index] = ClosedSect { test, file, items };
+        Ok(())
+    }
+
+    /// Gives the closed section at `index`, which must exist, another test name. Leaves the sections unchanged on `Memory`.
+    pub fn set_test(&mut self, index: usize, test: &[u8]) -> Result<(), Memory>
+        requires { index < length self.old.sects }
+        ensures sects { OnOk result (self.new.sects ≡ test_set index test.now self.old.sects) }
+        ensures same { OnErr result (self.new.sects ≡ self.old.sects) }
+        ensures items { self.new.items ≡ self.old.items }
+    {
+        let test = append_text(&mut self.texts, test)?;
+        let ClosedSect { file, items, .. } = self.sects[index];
+        self.sects[index] = ClosedSect { test, file, items };
         Ok(())
     }
 

@@ -41,6 +41,14 @@ impl<A: Allocator> PackedSubmission<A> {
         PackedSubmission { sects, odd }
     }
 
+    /// Returns the sections, which `of_lawful` takes again.
+    pub fn into_sects(self) -> PackedSects<A>
+        ensures sects { result.sects ≡ self.sects }
+        ensures lawful { IsLawful self }
+    {
+        self.sects
+    }
+
     /// Whether the submissions are equal. Never allocates.
     pub fn is_same(&self, other: &PackedSubmission<A>) -> bool
         ensures { IsTrue result ↔ (self.now ≡ other.now) }
