@@ -12,7 +12,7 @@ function __covcollect_words
             echo -- $word
         else if test "$word" = --
             set ended yes
-        else if contains -- "$word" -j --jobs -o --output --include --exclude --test --expect --title --date --source --fail-under-{lines,functions,branches}
+        else if contains -- "$word" -j --jobs -o --output --include --exclude --test --expect --path --files-from --title --date --source --fail-under-{lines,functions,branches}
             set value yes
         else if not string match -q -- '-*' $word
             echo -- $word
@@ -111,6 +111,10 @@ complete -c covcollect -n '__covcollect_within summary combine' -l fail-under-li
 complete -c covcollect -n '__covcollect_within summary combine' -l fail-under-functions -x -d 'Status 6 if fewer are hit, in percent'
 complete -c covcollect -n '__covcollect_within summary combine' -l fail-under-branches -x -d 'Status 6 if fewer are hit, in percent'
 complete -c covcollect -n '__covcollect_within combine' -l expect -x -d 'Status 5 unless so many files are read'
+complete -c covcollect -n '__covcollect_within combine' -l files-from -r -F -d 'Read the files that this list names too'
+complete -c covcollect -n '__covcollect_within combine' -s 0 -l null -d 'Names in the list end at NUL bytes'
+complete -c covcollect -n '__covcollect_within combine' -l one-test -d 'Count all as of one test, whose name may stand behind ='
+complete -c covcollect -n '__covcollect_within combine' -l path -x -d 'Count what is under OLD as under NEW, as OLD=NEW'
 complete -c covcollect -n '__covcollect_within combine' -l list -d 'List each source file, with -o'
 complete -c covcollect -n '__covcollect_within combine' -s q -l quiet -d 'Show no progress'
 complete -c covcollect -n '__covcollect_within html' -s o -l output -x -a '(__fish_complete_directories (commandline -ct))' -d 'Write the pages into this folder'

@@ -2,7 +2,7 @@
 
 Each function is a job: it is handed a player and a folder of its own, where `a.info` is a tracefile.
 """
-import os, subprocess, threading
+import os, re, select, subprocess, threading, time
 from e2e_of.made import MERGED, TEXT, written
 from e2e_of.player import PATIENCE
 
@@ -34,6 +34,45 @@ def lost_overviews(player, folder):
         ):
             player.shell("combine", folder, f'"$0" combine {words} {end}', (1, b"", f"{told}\n".encode()))
         player.look_into(f"{folder}/out.info", TEXT)
+
+
+def one_file_by_two_names(player, folder):
+    """Links lead to one file, which `combine` takes once. A copy is another file."""
+    os.symlink("a.info", f"{folder}/symbolic.info")
+    os.link(f"{folder}/a.info", f"{folder}/hard.info")
+    for name in ("symbolic.info", "hard.info"):
+        told = f"{name}: the same file as a.info\n".encode()
+        player.shell("link", folder, f'"$0" combine -o out.info a.info {name}', (2, b"", told))
+        player.shell("link", folder, f'printf "{name}\\n" | "$0" combine --files-from - a.info', (2, b"", told))
+    player.shell("copy", folder, 'cp a.info copy.info; "$0" combine a.info copy.info', (0, MERGED, b""))
+
+
+def shown_on(terminal, seconds, until=None):
+    """What is written to a terminal for so long, or until this is."""
+    shown, end = b"", time.monotonic() + seconds
+    while (left := end - time.monotonic()) > 0 and not (until and until in shown):
+        if select.select([terminal], [], [], left)[0]:
+            try:
+                shown += os.read(terminal, 65536)
+            except OSError:
+                break
+    return shown
+
+
+def on_a_terminal(player, folder):
+    """A terminal shows how much is read while a file is slow. The line is erased in the end; with -q there is none."""
+    os.mkfifo(f"{folder}/slow")
+    for words, wanted in ((["combine"], rb"(\r[12] of 2 files, 0 of 0 MB(, 0 s left)?\x1b\[K)+\r\x1b\[K"), (["combine", "--quiet"], rb"")):
+        words = [player.program, *words, "a.info", "slow"]
+        terminal, end = os.openpty()
+        ran = subprocess.Popen(words, cwd=folder, stdout=subprocess.PIPE, stderr=end)
+        os.close(end)
+        shown = shown_on(terminal, PATIENCE if wanted else 1, b"\x1b[K")
+        written(f"{folder}/slow", [TEXT])
+        output = ran.communicate(timeout=PATIENCE)[0]
+        shown += shown_on(terminal, PATIENCE)
+        os.close(terminal)
+        player.look("terminal", words, (0, MERGED, True), (ran.returncode, output, bool(re.fullmatch(wanted, shown)) or shown))
 
 
 def many_files(player, folder):
@@ -99,5 +138,8 @@ def beside_a_tracefile(part):
     return job
 
 
-PARTS = (a_pipe, lost_outputs, lost_overviews, many_files, told_before_the_next, lost_sessions, strange_words, whole_or_nothing)
+PARTS = (
+    a_pipe, lost_outputs, lost_overviews, one_file_by_two_names, on_a_terminal, many_files, told_before_the_next, lost_sessions, strange_words,
+    whole_or_nothing,
+)
 JOBS = tuple(map(beside_a_tracefile, PARTS))

@@ -7,6 +7,8 @@ import re, shlex, subprocess
 
 HELP = ("-h", "--help", None)
 BLOCK = re.compile(r'^(\.\\" generated: (\w+)\n)(.*?)^(\.\\" end\n)', re.M | re.S)
+# Options whose value stands behind `=` or is missing: the word after such an option isn't its value.
+BEHIND_SIGN = ("--one-test",)
 ZSH_MORE = re.compile(r"\[\[ \$line\[1\] (!?=) (\w+) \]\] \|\|\s+more\+=\((.*?)\)\n", re.S)
 # Prints what the file after it completes of `-` after the subcommand, or if there is none, after the program's name.
 BASH = """
@@ -90,7 +92,7 @@ def zsh_names(parts, text):
     words = " ".join([*parts, *(variables.get(it, "") for it in re.findall(r"\$(\w+)", parts[0]))])
     words = re.sub(r"'\(.*?\)'|\[[^\]]*\]", " ", words)
     words = re.sub(r"(\S*)\{([^{}]*)\}'?(=?)", lambda it: " ".join(it[1] + name + it[3] for name in it[2].split(",")), words)
-    return {name: bool(sign) for name, sign in re.findall(r"(?<![\w-])(--?[A-Za-z][\w-]*)([+=]?)", words)}
+    return {name: bool(sign) for name, sign in re.findall(r"(?<![\w-])(--?[A-Za-z\d][\w-]*)([+=](?!-)|)", words)}
 
 
 def in_fish(text, subcommand):
@@ -126,12 +128,12 @@ def faults(page, completions, subcommands, of_program):
     yield from (f"docs/covcollect.1: the generated part {it} is missing" for it in sorted(lost))
     every = names_of([*of_program, *(it.option for arguments in subcommands.values() for it in arguments if it.long)])
     yield from differing("docs/covcollect.1: OPTIONS", headings(page), every)
-    with_value = {it: True for it, value in every.items() if value}
+    with_value = {it: True for it, value in every.items() if value and it not in BEHIND_SIGN}
     for shell, pattern in (("bash", r"^ *(-.*)\) \(\(i\+\+\)\) ;;"), ("fish", r'contains -- "\$word" (.*)')):
         name, _, text = completions[shell]
         yield from differing(f"{name}: options with a value", values_in(text, re.compile(pattern, re.M)), with_value)
     for subcommand, arguments in subcommands.items():
-        wanted = {it: value is not None for it, value in names_of([HELP, *(it.option for it in arguments if it.long)]).items()}
+        wanted = {it: value is not None and it not in BEHIND_SIGN for it, value in names_of([HELP, *(it.option for it in arguments if it.long)]).items()}
         yield from of_subcommand(completions, subcommand, wanted)
     program = {it: False for it in names_of(of_program)}
     yield from of_subcommand(completions, "", program)

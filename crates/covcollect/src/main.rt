@@ -24,6 +24,7 @@ use covcommand::{CommandFault, word_at};
 pub use covlaws::{
     a_merge_of_merges_is_the_merge_of_all, each_report_of_a_history_reads_back, reports_read_back,
 };
+use covprogress::ShowsProgress;
 use covrun::{Sinks, World, refuse, run};
 use covstore::Store;
 use covstream::{FromRead, FromWrite};
@@ -44,7 +45,7 @@ fn main(rt: HostRuntime) -> ExitCode {
     };
     let status = match words_of_call(&rt) {
         Ok(words) => {
-            let folder = FromFiles::new(&rt);
+            let folder = ShowsProgress::new(FromFiles::new(&rt), rt, rt.stderr());
             run::<_, _, _, _, _, _, Store>(&rt, &folder, words.as_slice(), &mut world)
         }
         Err(fault) => refuse(fault, &mut world.sinks),

@@ -1,6 +1,6 @@
 -- How a call ends once its files are collected.
-use Rattle.std.specs.List.{count_by, flat_map, list_all}
-use Rattle.std.specs.Prelude.{◌==◌, ◌&&◌, ◌++◌, ℕ, Bool, true, false, not, min, fold, List, [], ◌∷◌, codes, slice_get, unwrap_or, if◌then◌else◌, Option, None, Some}
+use Rattle.std.specs.List.{count_by, flat_map, list_all, list_any}
+use Rattle.std.specs.Prelude.{◌==◌, ◌&&◌, ◌++◌, ℕ, suc, Bool, true, false, not, min, fold, List, [], ◌∷◌, codes, get_or, slice_get, unwrap_or, if◌then◌else◌, Option, None, Some}
 use Rattle.covbook.specs.Op.{AnswerData, AcceptedAnswer, ClashAnswer, DroppedAnswer, RenamedAnswer, NoSuchTestAnswer, TextAnswer, EntryData}
 use Rattle.covbook.specs.Step.{ops_in, table_of}
 use Rattle.covcommand.specs.declared.asked.Overview.{Overview}
@@ -13,13 +13,14 @@ use Rattle.covlimit.specs.Limits.{shortfalls}
 use Rattle.covlist.specs.Chosen.{chosen_files, chooses_any, is_matched, totals_of_chosen}
 use Rattle.covlist.specs.Json.{list_json_of, summary_json_of}
 use Rattle.covlist.specs.Table.{list_table_of}
+use Rattle.covpaths.specs.Paths.{RuleData}
 use Rattle.covreport.specs.Choice.{ChoiceData, AllFiles, Extracted, Removed, Filtered}
 use Rattle.covreport.specs.Report.{report_text}
 use Rattle.covreport.specs.Summary.{summary_of}
 use Rattle.covtable.specs.Content.{SectionData, content_at}
 use Rattle.covtable.specs.Files.{FileTotalsData, files_with_totals}
 use Rattle.covworkers.specs.declared.refused.RefusedInput.{RefusedInput}
-use Rattle.covcombine.specs.Messages.{clash_line, expected_line, fault_line, misfits_line, no_record_line, none_left_line, option_name, strange_words, told, unmatched_line, unreadable_line}
+use Rattle.covcombine.specs.Messages.{clash_line, expected_line, fault_line, misfits_line, no_record_line, none_left_line, option_name, strange_words, told, unmatched_line, unreadable_line, unused_line}
 use Rattle.covcombine.specs.Options.{CombineData}
 use Rattle.covcombine.specs.declared.call_fault.CallOption.TheVariants.{Include, Exclude}
 use Rattle.covcombine.specs.declared.call_fault.CallOption.{CallOption}
@@ -47,7 +48,7 @@ misfits_told front strictness name misfits = if misfits == 0 then [] else misfit
 
 -- what is doubtful of a file: a warning, unless the call is strict
 abbrev pub warning_of : Strictness → (name : List ℕ) → Note → List ℕ
-warning_of Lenient name (Merged misfits) = misfits_told (codes "warning: ") Lenient name misfits
+warning_of Lenient name (Merged misfits used) = misfits_told (codes "warning: ") Lenient name misfits
 warning_of strictness name note = []
 
 -- why a call fails, if it fails for the file of this name
@@ -56,8 +57,8 @@ refusal_of strictness name Unreadable = unreadable_line name
 refusal_of strictness name (Strange kind) = told name (strange_words name kind)
 refusal_of strictness name (NoRecord begins sections) = no_record_line name begins sections
 refusal_of strictness name (Faulty fault) = fault_line name fault
-refusal_of Lenient name (Merged misfits) = []
-refusal_of Strict name (Merged misfits) = misfits_told [] Strict name misfits
+refusal_of Lenient name (Merged misfits used) = []
+refusal_of Strict name (Merged misfits used) = misfits_told [] Strict name misfits
 
 -- such a line about each file, in the files' order
 abbrev pub lines_by : (List ℕ → Note → List ℕ) → (files : List (List ℕ)) → List (RefusedInput Note) → List ℕ
@@ -82,7 +83,7 @@ is_merged Unreadable = false
 is_merged (Strange kind) = false
 is_merged (NoRecord begins sections) = false
 is_merged (Faulty fault) = false
-is_merged (Merged misfits) = true
+is_merged (Merged misfits used) = true
 
 abbrev pub merged_in : List (RefusedInput Note) → ℕ
 merged_in notes = count_by (λ (n : RefusedInput Note). is_merged n.fault) notes
@@ -90,6 +91,25 @@ merged_in notes = count_by (λ (n : RefusedInput Note). is_merged n.fault) notes
 abbrev pub unexpected : (expected : Option ℕ) → (read : ℕ) → List ℕ
 unexpected None read = []
 unexpected (Some expected) read = if expected == read then [] else expected_line expected read
+
+-- ---- paths
+
+-- whether the rule for paths at this place was applied to a source file of the file with this note
+abbrev pub has_used : Note → (place : ℕ) → Bool
+has_used Unreadable place = false
+has_used (Strange kind) place = false
+has_used (NoRecord begins sections) place = false
+has_used (Faulty fault) place = false
+has_used (Merged misfits used) place = get_or used place false
+
+abbrev pub is_used : List (RefusedInput Note) → (place : ℕ) → Bool
+is_used notes place = list_any (λ (n : RefusedInput Note). has_used n.fault place) notes
+
+-- a line about each of these rules that was applied to no source file. They have places from `place` on
+abbrev pub unused_from : (front : List ℕ) → List (RefusedInput Note) → (place : ℕ) → List RuleData → List ℕ
+unused_from front notes place [] = []
+unused_from front notes place (rule ∷ rules) =
+    (if is_used notes place then [] else unused_line front rule) ++ unused_from front notes (suc place) rules
 
 -- ---- patterns
 
@@ -129,28 +149,33 @@ abbrev pub is_whole : List EntryData → List (RefusedInput Note) → Bool
 is_whole entries notes =
     list_all (λ (n : RefusedInput Note). is_merged n.fault) notes && list_all (λ (e : EntryData). not (is_clash e.answer)) entries
 
--- patterns are judged by the whole alone
-abbrev pub judged_by : (front : List ℕ) → ChoiceData → List EntryData → List (RefusedInput Note) → List ℕ
-judged_by front choice entries notes = if is_whole entries notes then pattern_lines front choice (files_with_totals (content_at (table_of (ops_in entries)))) else []
+-- what is doubtful of the paths, and then of the patterns
+abbrev pub doubts : (front : List ℕ) → CombineData → List EntryData → List (RefusedInput Note) → List ℕ
+doubts front work entries notes =
+    unused_from front notes 0 work.new.rules ++ pattern_lines front work.choice (files_with_totals (content_at (table_of (ops_in entries))))
 
-abbrev pub pattern_warnings : Strictness → ChoiceData → List EntryData → List (RefusedInput Note) → List ℕ
-pattern_warnings Lenient choice entries notes = judged_by (codes "warning: ") choice entries notes
-pattern_warnings Strict choice entries notes = []
+-- paths and patterns are judged by the whole alone
+abbrev pub judged_by : (front : List ℕ) → CombineData → List EntryData → List (RefusedInput Note) → List ℕ
+judged_by front work entries notes = if is_whole entries notes then doubts front work entries notes else []
 
-abbrev pub pattern_refusals : Strictness → ChoiceData → List EntryData → List (RefusedInput Note) → List ℕ
-pattern_refusals Lenient choice entries notes = []
-pattern_refusals Strict choice entries notes = judged_by [] choice entries notes
+abbrev pub judged_warnings : Strictness → CombineData → List EntryData → List (RefusedInput Note) → List ℕ
+judged_warnings Lenient work entries notes = judged_by (codes "warning: ") work entries notes
+judged_warnings Strict work entries notes = []
+
+abbrev pub judged_refusals : Strictness → CombineData → List EntryData → List (RefusedInput Note) → List ℕ
+judged_refusals Lenient work entries notes = []
+judged_refusals Strict work entries notes = judged_by [] work entries notes
 
 -- ---- the end
 
 abbrev pub warnings : CombineData → List EntryData → List (RefusedInput Note) → List ℕ
-warnings work entries notes = lines_by (warning_of work.strictness) work.files notes ++ pattern_warnings work.strictness work.choice entries notes
+warnings work entries notes = lines_by (warning_of work.strictness) work.files notes ++ judged_warnings work.strictness work entries notes
 
--- why the call fails: files in their order, clashes, how many files were read, and patterns
+-- why the call fails: files in their order, clashes, how many files were read, and paths and patterns
 abbrev pub failures : CombineData → List EntryData → List (RefusedInput Note) → List ℕ
 failures work entries notes =
     lines_by (refusal_of work.strictness) work.files notes
-    ++ (clash_lines entries ++ (unexpected work.expected (merged_in notes) ++ pattern_refusals work.strictness work.choice entries notes))
+    ++ (clash_lines entries ++ (unexpected work.expected (merged_in notes) ++ judged_refusals work.strictness work entries notes))
 
 -- the status of a call that fails for a file with this note
 abbrev pub note_status : Note → ℕ
@@ -158,7 +183,7 @@ note_status Unreadable = 1
 note_status (Strange kind) = 5
 note_status (NoRecord begins sections) = 5
 note_status (Faulty fault) = 4
-note_status (Merged misfits) = 5
+note_status (Merged misfits used) = 5
 
 abbrev pub answer_status : AnswerData → ℕ
 answer_status answer = if is_clash answer then 4 else 5

@@ -1,5 +1,7 @@
 -- One call of `combine`: what is in the file and on standard output, which lines are on standard error, and which status it has.
-use Rattle.std.specs.Prelude.{◌≡◌, ◌⊎◌, ◌++◌, ℕ, suc, List, [], ◌∷◌, codes, Option, None, Some}
+use Rattle.std.specs.Prelude.{◌≡◌, ◌⊎◌, ◌<◌, ◌++◌, ℕ, suc, List, [], ◌∷◌, codes, length, option_map, slice_get, Option, None, Some}
+use Rattle.std.specs.Str.{IsUtf8}
+use Rattle.std.specs.String.{string_bytes}
 use Rattle.covbook.specs.Op.{EntryData}
 use Rattle.covcommand.specs.declared.asked.CombineOptions.{CombineOptions}
 use Rattle.covcommand.specs.declared.asked.Strictness.{Strictness}
@@ -12,16 +14,19 @@ use Rattle.covworkers.specs.Start.{AreJobs}
 use Rattle.covworkers.specs.declared.collect_fault.CollectFault.{CollectFault}
 use Rattle.covworkers.specs.declared.collect_fault.CollectFault.TheVariants as collects
 use Rattle.covworkers.specs.declared.refused.RefusedInput.{RefusedInput}
-use Rattle.covworld.specs.Folder.{FolderData}
+use Rattle.covread.specs.Outcome.{max_bytes}
+use Rattle.covstream.specs.Blocks.{HasReadAtMost}
+use Rattle.covworld.specs.Folder.{FolderData, IsTextOf}
 use Rattle.covworld.specs.OutputFiles.{IsWritten}
-use Rattle.covworld.specs.Streams.{SinksData, Complains, IsSilent, PutsOut, Withholds}
+use Rattle.covworld.specs.Streams.{SinksData, SourceData, Complains, IsSilent, PutsOut, Withholds}
 use Rattle.covworld.specs.World.{WorldData}
 use Rattle.covcombine.specs.Combine.{EndingData, Fails, Gives, end_of}
 use Rattle.covcombine.specs.Messages.{call_fault_line, cut_line, expected_line, unwritten_line}
+use Rattle.covcombine.specs.FileNames.{AreNamesOf, InFile, InInput, IsListRead, ListPlace, cut_at, end_byte, name_of_list, place_of}
 use Rattle.covcombine.specs.Notes.{IsOfFile}
 use Rattle.covcombine.specs.Options.{AreJobsFor, CombineData, IsCallFault, IsWorkOf}
 use Rattle.covcombine.specs.declared.call_fault.CallFault.{CallFault}
-use Rattle.covcombine.specs.declared.call_fault.CallFault.TheVariants.{NoName}
+use Rattle.covcombine.specs.declared.call_fault.CallFault.TheVariants.{NoName, UnreadList, LongList, NotText}
 use Rattle.covcombine.specs.declared.note.Note.{Note}
 
 -- ---- how files are collected
@@ -43,9 +48,9 @@ of_collecting collects.NotLast = Fails 3 (said (codes "gather"))
 abbrev pub Ends : FolderData → (jobs : ℕ) → CombineData → EndingData → Type 0
 Ends folder jobs work ending =
     (ending ≡ out_of_memory)
-    ⊎ (((fault : CollectFault) × (fault ≡ collects.BadJobs → AreJobs jobs → ⊥) × MayCome (FillHistory (IsOfFile folder work.strictness) work.files) fault × (ending ≡ of_collecting fault))
+    ⊎ (((fault : CollectFault) × (fault ≡ collects.BadJobs → AreJobs jobs → ⊥) × MayCome (FillHistory (IsOfFile folder work.new work.strictness) work.files) fault × (ending ≡ of_collecting fault))
     ⊎ ((entries : List EntryData) × (notes : List (RefusedInput Note))
-    × IsCollectedSoFar (IsOfFile folder work.strictness) work.files jobs entries notes × (ending ≡ end_of work entries notes)))
+    × IsCollectedSoFar (IsOfFile folder work.new work.strictness) work.files jobs entries notes × (ending ≡ end_of work entries notes)))
 
 -- ---- where texts and lines go
 
@@ -89,20 +94,65 @@ IsReported (Some name) (Gives given) status old new =
 -- the end of a call whose options don't do. If it expects files, it says that it read none
 abbrev pub of_call_fault : (expected : Option ℕ) → CallFault → EndingData
 of_call_fault (Some number) NoName = Fails 5 (call_fault_line NoName ++ expected_line number 0)
+of_call_fault expected (UnreadList list) = Fails 1 (call_fault_line (UnreadList list))
 of_call_fault expected fault = Fails 2 (call_fault_line fault)
 
+-- a list there can't be read: the file of this name may fail, or a read of standard input failed
+abbrev pub IsUnreadAt : FolderData → ListPlace → (before after : SourceData) → Type 0
+IsUnreadAt folder (InFile name) before after = folder.MayFail name × (after ≡ before)
+IsUnreadAt folder InInput before after = after.failed_reads ≡ suc before.failed_reads
+
+-- a list there is too long
+abbrev pub IsLongAt : FolderData → ListPlace → (before after : SourceData) → Type 0
+IsLongAt folder (InFile name) before after = (text : List ℕ) × IsTextOf (folder.holds name) text × (max_bytes < length text) × (after ≡ before)
+IsLongAt folder InInput before after =
+    (text : List ℕ) × HasReadAtMost (suc max_bytes) before.left after.left text × (max_bytes < length text) × (after.failed_reads ≡ before.failed_reads)
+
+-- the list of this name isn't taken for this reason: it can't be read; or it has more than 64 MiB; or a name in it isn't UTF-8. Names end at
+-- `byte`. `before` and `after`: standard input
+abbrev pub IsListFault : FolderData → (list : List ℕ) → (byte : ℕ) → (before after : SourceData) → CallFault → Type 0
+IsListFault folder list byte before after (UnreadList told) = (told.now ≡ name_of_list list) × IsUnreadAt folder (place_of list) before after
+IsListFault folder list byte before after (LongList told) = (told.now ≡ name_of_list list) × IsLongAt folder (place_of list) before after
+IsListFault folder list byte before after (NotText told number) =
+    (told.now ≡ name_of_list list) × (text : List ℕ) × IsListRead folder (place_of list) text before after
+    × (name : List ℕ) × (at : ℕ) × (number ≡ suc at) × (slice_get (cut_at byte text) at ≡ Some name) × (IsUtf8 name → ⊥)
+IsListFault folder list byte before after other = ⊥
+
+-- standard input was read at most for a list in it
+abbrev pub MayReadAt : ListPlace → (before after : SourceData) → Type 0
+MayReadAt (InFile name) before after = after ≡ before
+MayReadAt InInput before after = Unit {0}
+
+abbrev pub MayRead : (list : Option (List ℕ)) → (before after : SourceData) → Type 0
+MayRead None before after = after ≡ before
+MayRead (Some list) before after = MayReadAt (place_of list) before after
+
+-- how a call ends that doesn't get the names of its files: memory ran out, or the list isn't taken
+abbrev pub StopsUnnamed : FolderData → CombineOptions → (list : Option (List ℕ)) → EndingData → (before after : SourceData) → Type 0
+StopsUnnamed folder options None ending before after = (ending ≡ out_of_memory) × (after ≡ before)
+StopsUnnamed folder options (Some list) ending before after =
+    ((ending ≡ out_of_memory) × MayRead (Some list) before after)
+    ⊎ ((fault : CallFault) × IsListFault folder list (end_byte options.names_end) before after fault × (ending ≡ of_call_fault options.expected fault))
+
 -- how a call ends that doesn't begin its work
-abbrev pub StopsEarly : CombineOptions → (file : Option (List ℕ)) → EndingData → Type 0
-StopsEarly options file ending =
-    (ending ≡ out_of_memory) ⊎ ((fault : CallFault) × IsCallFault options file fault × (ending ≡ of_call_fault options.expected fault))
+abbrev pub StopsEarly : FolderData → CombineOptions → (names : List (List ℕ)) → (file : Option (List ℕ)) → EndingData → Type 0
+StopsEarly folder options names file ending =
+    (ending ≡ out_of_memory)
+    ⊎ ((fault : CallFault) × IsCallFault folder options names file fault × (ending ≡ of_call_fault options.expected fault))
 
--- how a call ends: it doesn't begin its work, or its options do, and the work has this end
-abbrev pub MayEnd : FolderData → CombineOptions → Strictness → (file : Option (List ℕ)) → EndingData → Type 0
-MayEnd folder options strictness file ending =
-    StopsEarly options file ending
-    ⊎ ((work : CombineData) × (jobs : ℕ) × IsWorkOf options strictness file work × AreJobsFor options.jobs jobs × Ends folder jobs work ending)
+-- how a call ends that has the names of its files: it doesn't begin its work, or its options do, and the work has this end
+abbrev pub MayEndWith : FolderData → CombineOptions → (names : List (List ℕ)) → Strictness → (file : Option (List ℕ)) → EndingData → Type 0
+MayEndWith folder options names strictness file ending =
+    StopsEarly folder options names file ending
+    ⊎ ((work : CombineData) × (jobs : ℕ) × IsWorkOf folder options names strictness file work × AreJobsFor options.jobs jobs × Ends folder jobs work ending)
 
--- a call of `combine` has an end, which is reported. The input isn't read
+-- how a call ends: without the names of its files, or with them
+abbrev pub MayEnd : FolderData → CombineOptions → Strictness → (file : Option (List ℕ)) → EndingData → (before after : SourceData) → Type 0
+MayEnd folder options strictness file ending before after =
+    StopsUnnamed folder options (option_map string_bytes options.list) ending before after
+    ⊎ ((names : List (List ℕ)) × AreNamesOf folder options names before after × MayEndWith folder options names strictness file ending)
+
+-- a call of `combine` has an end, which is reported. The input is read for a list in it alone
 abbrev pub IsCombineCall : FolderData → CombineOptions → Strictness → (file : Option (List ℕ)) → (status : ℕ) → WorldData → WorldData → Type 0
 IsCombineCall folder options strictness file status old new =
-    (new.input ≡ old.input) × (ending : EndingData) × MayEnd folder options strictness file ending × IsReported file ending status old new
+    (ending : EndingData) × MayEnd folder options strictness file ending old.input new.input × IsReported file ending status old new

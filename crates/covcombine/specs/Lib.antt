@@ -5,9 +5,11 @@ pub use Rattle.covworld.specs.Streams
 pub use Rattle.covworld.specs.World
 pub mod Strangers
 pub mod Notes
+pub mod FileNames
 pub mod Options
 pub mod Messages
 pub mod Combine
 pub mod Combined
 pub mod View
 pub mod Steps
+pub mod ListSteps

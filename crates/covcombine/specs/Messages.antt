@@ -7,10 +7,13 @@ use Rattle.covdata.specs.declared.fault.ReadFault.TheVariants as faults
 use Rattle.covdata.specs.declared.trace_line.LineFault.{LineFault}
 use Rattle.covdata.specs.declared.trace_line.LineFault.TheVariants.{BadLine, EmptyPath, NumberTooLarge}
 use Rattle.covlist.specs.Shown.{shown_name}
+use Rattle.covpaths.specs.Paths.{RuleData}
+use Rattle.covpaths.specs.declared.rule.RuleFault.{RuleFault}
+use Rattle.covpaths.specs.declared.rule.RuleFault.TheVariants as rules
 use Rattle.covsession.specs.Session.{said}
 use Rattle.covtable.specs.Clash.{ClashData}
 use Rattle.covcombine.specs.declared.call_fault.CallFault.{CallFault}
-use Rattle.covcombine.specs.declared.call_fault.CallFault.TheVariants.{ManyPatterns, LongPattern, NoRate, NoRoom, NoName, Twice}
+use Rattle.covcombine.specs.declared.call_fault.CallFault.TheVariants.{ManyPatterns, LongPattern, NoRate, BadPath, BadTest, NoRoom, NoName, Twice, OneFile, UnreadList, LongList, NotText}
 use Rattle.covcombine.specs.declared.call_fault.CallOption.{CallOption}
 use Rattle.covcombine.specs.declared.call_fault.CallOption.TheVariants as options
 use Rattle.covcombine.specs.declared.stranger.Stranger.{Stranger}
@@ -99,6 +102,11 @@ misfits_line front strictness name number =
 abbrev pub unmatched_line : (front option pattern : List ℕ) → List ℕ
 unmatched_line front option pattern = said (front ++ (option ++ (codes " " ++ (shown_name pattern ++ codes ": matches no source file"))))
 
+-- the rule for paths was applied to no source file
+abbrev pub unused_line : (front : List ℕ) → RuleData → List ℕ
+unused_line front rule =
+    said (front ++ (codes "--path " ++ (shown_name rule.old ++ (codes "=" ++ (shown_name rule.new ++ codes ": applies to no source file")))))
+
 abbrev pub none_left_line : (front : List ℕ) → List ℕ
 none_left_line front = said (front ++ codes "--include and --exclude leave no source file")
 
@@ -134,11 +142,25 @@ option_name options.Json = codes "--json"
 abbrev pub error_line : (words : List ℕ) → List ℕ
 error_line words = said (codes "error: " ++ words)
 
+-- a word of `--path` is no rule
+abbrev pub rule_fault_words : RuleFault → List ℕ
+rule_fault_words rules.NoSign = codes ": OLD=NEW was expected"
+rule_fault_words rules.NoOld = codes ": nothing stands before the ="
+rule_fault_words rules.BadNew = codes ": a path has no line feed, and no carriage return at its end"
+rule_fault_words rules.Slashes = codes ": end both OLD and NEW in a slash, or neither"
+
 abbrev pub call_fault_line : CallFault → List ℕ
 call_fault_line (ManyPatterns option) = error_line (option_name option ++ codes ": more than 64 patterns")
 call_fault_line (LongPattern option) = error_line (option_name option ++ codes ": a pattern has more than 1024 bytes")
 call_fault_line (NoRate option word) =
     error_line (option_name option ++ (codes " " ++ (shown_name word.now ++ codes ": a number from 0 to 100 with at most six decimals was expected")))
+call_fault_line (BadPath fault word) = error_line (codes "--path " ++ (shown_name word.now ++ rule_fault_words fault))
+call_fault_line (BadTest test) =
+    error_line (codes "--one-test=" ++ (shown_name test.now ++ codes ": a test's name has no line feed, and no carriage return at its end"))
 call_fault_line (NoRoom option) = error_line (option_name option ++ codes ": needs -o FILE, since standard output has the tracefile")
 call_fault_line NoName = error_line (codes "no file is named: did a pattern match nothing?")
 call_fault_line (Twice name) = told name.now (codes "named twice")
+call_fault_line (OneFile first second) = told second.now (codes "the same file as " ++ shown_name first.now)
+call_fault_line (UnreadList list) = unreadable_line list.now
+call_fault_line (LongList list) = told list.now (codes "more than 64 MiB")
+call_fault_line (NotText list number) = told_at list.now number (codes "the name isn't UTF-8")

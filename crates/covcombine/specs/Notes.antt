@@ -1,6 +1,6 @@
 -- What comes of a file: the submissions that are read of it, and a note.
-use Rattle.std.specs.List.{sum_by}
-use Rattle.std.specs.Prelude.{◌≡◌, ◌⊎◌, ◌+◌, ◌==◌, ℕ, List, [], length, if◌then◌else◌, Option, None, Some, Result, Ok, Err}
+use Rattle.std.specs.List.{flat_map, sum_by}
+use Rattle.std.specs.Prelude.{◌≡◌, ◌⊎◌, ◌+◌, ◌==◌, ℕ, Bool, List, [], length, map, if◌then◌else◌, Option, None, Some, Result, Ok, Err}
 use Rattle.covcheck.specs.Skipped.{IsSkippedLcov2}
 use Rattle.covcheck.specs.TextSummary.{AreLinesThat}
 use Rattle.covcommand.specs.declared.asked.Strictness.{Strictness}
@@ -10,6 +10,8 @@ use Rattle.covdata.specs.declared.fault.ReadFault.{ReadFault}
 use Rattle.covdata.specs.declared.version.LcovVersion.TheVariants.{Two}
 use Rattle.covlarge.specs.Large.{IsAll, IsReadAs}
 use Rattle.covlarge.specs.Summary.{SummaryData, told_number}
+use Rattle.covpaths.specs.Names.{NamesData, named, none_used, used_after}
+use Rattle.covpaths.specs.Paths.{RuleData}
 use Rattle.covworkers.specs.Collect.{OutcomeData}
 use Rattle.covworld.specs.Folder.{FolderData, IsTextAtMost}
 use Rattle.covcombine.specs.Strangers.{first_bytes, first_line, strange}
@@ -31,30 +33,37 @@ abbrev pub AreUnknown : Strictness → (text : List ℕ) → (number : ℕ) → 
 AreUnknown Lenient text number = number ≡ 0
 AreUnknown Strict text number = (lines : List (ℕ × List ℕ)) × AreLinesThat IsSkippedLcov2 text lines × (number ≡ told_number (length lines))
 
--- the note of a tracefile that was read to its end. `first`: its first bytes. Without an item it has no record
-abbrev pub note_of : (first : List ℕ) → Counts → (unknown : ℕ) → Note
-note_of first counts unknown =
-    if counts.items == 0 then NoRecord (first_line first) counts.sections else Merged (told_number (counts.odd + unknown))
+-- by the places of the rules for paths: whether a rule is applied to a source file of these submissions, which have their own names
+abbrev pub used_in : List RuleData → List SubmissionData → List Bool
+used_in rules read = used_after rules (none_used rules) (flat_map (λ s. s.sects) read)
+
+-- the note of a tracefile that was read to its end. `first`: its first bytes. `used`: the rules that were applied. Without an item it has
+-- no record
+abbrev pub note_of : (first : List ℕ) → Counts → (unknown : ℕ) → (used : List Bool) → Note
+note_of first counts unknown used =
+    if counts.items == 0 then NoRecord (first_line first) counts.sections else Merged (told_number (counts.odd + unknown)) used
 
 -- the note of a text that is read as these submissions, up to this end
-abbrev pub IsNoted : Strictness → (first text : List ℕ) → (read : List SubmissionData) → Result (Option SummaryData) ReadFault → Note → Type 0
-IsNoted strictness first text read (Ok told) note = (unknown : ℕ) × AreUnknown strictness text unknown × (note ≡ note_of first (counts_of read) unknown)
-IsNoted strictness first text read (Err fault) note = note ≡ Faulty fault
+abbrev pub IsNoted : Strictness → List RuleData → (first text : List ℕ) → (read : List SubmissionData) → Result (Option SummaryData) ReadFault → Note → Type 0
+IsNoted strictness rules first text read (Ok told) note =
+    (unknown : ℕ) × AreUnknown strictness text unknown × (note ≡ note_of first (counts_of read) unknown (used_in rules read))
+IsNoted strictness rules first text read (Err fault) note = note ≡ Faulty fault
 
--- what comes of a tracefile of LCOV 1 or 2, of any length. `held`: its bytes, if the folder knows them
-abbrev pub IsOfTracefile : Strictness → (held : Option (List ℕ)) → (first : List ℕ) → OutcomeData Note → Type 0
-IsOfTracefile strictness held first outcome =
+-- what comes of a tracefile of LCOV 1 or 2, of any length: what is read of it, with the new names. `held`: its bytes, if the folder knows
+-- them
+abbrev pub IsOfTracefile : NamesData → Strictness → (held : Option (List ℕ)) → (first : List ℕ) → OutcomeData Note → Type 0
+IsOfTracefile new strictness held first outcome =
     (text : List ℕ) × (read : List SubmissionData) × (end : Result (Option SummaryData) ReadFault) × (note : Note)
-    × IsAll held text × IsReadAs Two text read end × IsNoted strictness first text read end note
-    × (outcome ≡ record { read = read; fault = Some note })
+    × IsAll held text × IsReadAs Two text read end × IsNoted strictness new.rules first text read end note
+    × (outcome ≡ record { read = map (named new) read; fault = Some note })
 
 -- a file of another kind isn't read
-abbrev pub IsUnlessStrange : Option Stranger → Strictness → (held : Option (List ℕ)) → (first : List ℕ) → OutcomeData Note → Type 0
-IsUnlessStrange None strictness held first outcome = IsOfTracefile strictness held first outcome
-IsUnlessStrange (Some kind) strictness held first outcome = outcome ≡ record { read = []; fault = Some (Strange kind) }
+abbrev pub IsUnlessStrange : Option Stranger → NamesData → Strictness → (held : Option (List ℕ)) → (first : List ℕ) → OutcomeData Note → Type 0
+IsUnlessStrange None new strictness held first outcome = IsOfTracefile new strictness held first outcome
+IsUnlessStrange (Some kind) new strictness held first outcome = outcome ≡ record { read = []; fault = Some (Strange kind) }
 
 -- what comes of the file of this name. Nothing is said of what was read of a file that can't be read: such a call prints no counts
-abbrev pub IsOfFile : FolderData → Strictness → (name : List ℕ) → OutcomeData Note → Type 0
-IsOfFile folder strictness name outcome =
+abbrev pub IsOfFile : FolderData → NamesData → Strictness → (name : List ℕ) → OutcomeData Note → Type 0
+IsOfFile folder new strictness name outcome =
     ((outcome.fault ≡ Some Unreadable) × folder.MayFail name)
-    ⊎ ((first : List ℕ) × IsTextAtMost first_bytes (folder.holds name) first × IsUnlessStrange (strange first) strictness (folder.holds name) first outcome)
+    ⊎ ((first : List ℕ) × IsTextAtMost first_bytes (folder.holds name) first × IsUnlessStrange (strange first) new strictness (folder.holds name) first outcome)

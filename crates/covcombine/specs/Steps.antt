@@ -1,9 +1,10 @@
 -- Private steps: how a tracefile is read part by part, and what is refused before.
-use Rattle.std.specs.List.{AllByRecursion, sum_by}
-use Rattle.std.specs.Prelude.{◌≡◌, ◌⊎◌, ◌+◌, ◌<◌, ◌≤◌, ℕ, List, [], length, Option, None, Some, Result, Ok, Err, Contains}
+use Rattle.std.specs.List.{AllByRecursion, flat_map, sum_by}
+use Rattle.std.specs.Prelude.{◌≡◌, ◌⊎◌, ◌+◌, ◌<◌, ◌≤◌, ℕ, Bool, List, [], length, map, Option, None, Some, Result, Ok, Err, Contains}
 use Rattle.covcommand.specs.declared.asked.CombineOptions.{CombineOptions}
 use Rattle.covcommand.specs.declared.asked.Strictness.{Strictness}
 use Rattle.covcommand.specs.declared.asked.Strictness.TheVariants.{Lenient, Strict}
+use Rattle.covdata.specs.Lawful.{IsGoodTest}
 use Rattle.covdata.specs.Row.{SubmissionData, items_in}
 use Rattle.covdata.specs.declared.fault.ReadFault.{ReadFault}
 use Rattle.covlarge.specs.Large.{max_pieces}
@@ -13,6 +14,8 @@ use Rattle.covlarge.specs.Summary.{SummaryData, told_number}
 use Rattle.covlarge.specs.declared.fault.PieceFault.{PieceFault}
 use Rattle.covlarge.specs.declared.fault.PieceFault.TheVariants as pieces
 use Rattle.covlimit.specs.Rates.{IsRate}
+use Rattle.covpaths.specs.Names.{NamesData, named, used_after}
+use Rattle.covpaths.specs.Paths.{IsRuleFault, RuleData}
 use Rattle.covreport.specs.Choice.{max_pattern_bytes, max_patterns}
 use Rattle.covreport.specs.declared.patterns.PatternFault.{PatternFault}
 use Rattle.covreport.specs.declared.patterns.PatternFault.TheVariants as patterns
@@ -23,9 +26,10 @@ use Rattle.covworkers.specs.Work.{in_front}
 use Rattle.covworkers.specs.declared.late_fault.LateFault.{LateFault}
 use Rattle.covworkers.specs.declared.late_fault.LateFault.TheVariants as late
 use Rattle.covworld.specs.Folder.{FolderData}
+use Rattle.covcombine.specs.FileNames.{AreApart, AreOneFile}
 use Rattle.covcombine.specs.Notes.{IsOfFile, note_of}
 use Rattle.covcombine.specs.Options.{AsksForOverview, IsCallFault, IsTwice}
-use Rattle.covcombine.specs.declared.call_fault.CallFault.TheVariants.{ManyPatterns, LongPattern, NoRate, NoName, Twice}
+use Rattle.covcombine.specs.declared.call_fault.CallFault.TheVariants.{ManyPatterns, LongPattern, NoRate, BadPath, BadTest, NoRoom, NoName, Twice, OneFile}
 use Rattle.covcombine.specs.declared.call_fault.CallOption.{CallOption}
 use Rattle.covcombine.specs.declared.call_fault.WorkFault.{WorkFault}
 use Rattle.covcombine.specs.declared.call_fault.WorkFault.TheVariants as works
@@ -51,6 +55,10 @@ counts_with counts read = record {
   odd = told_number (counts.odd + sum_by (λ s. s.odd) read);
 }
 
+-- the rules that were applied, with those for further submissions
+abbrev pub used_with : List RuleData → (used : List Bool) → List SubmissionData → List Bool
+used_with rules used read = used_after rules used (flat_map (λ s. s.sects) read)
+
 -- how many lines of unknown keys are told with a tracefile's end
 abbrev pub unknown_told : Option SummaryData → ℕ
 unknown_told None = 0
@@ -64,29 +72,33 @@ IsToldFor Strict (Ok None) = ⊥
 IsToldFor Strict (Ok (Some held)) = Unit {0}
 IsToldFor strictness (Err fault) = Unit {0}
 
--- the note of a tracefile with these first bytes and these counts in all, and this end
-abbrev pub note_at : (first : List ℕ) → Counts → Result (Option SummaryData) ReadFault → Note
-note_at first counts (Ok told) = note_of first counts (unknown_told told)
-note_at first counts (Err fault) = Faulty fault
+-- the note of a tracefile with these first bytes and these counts in all, to which these rules were applied, and with this end
+abbrev pub note_at : (first : List ℕ) → Counts → (used : List Bool) → Result (Option SummaryData) ReadFault → Note
+note_at first counts used (Ok told) = note_of first counts (unknown_told told) used
+note_at first counts used (Err fault) = Faulty fault
 
--- what may come of the rest of an opened tracefile: it can't be read, or it is read up to an end
-abbrev pub MayGiveOpened : {S : Type 0} → (left : S → Option (List ℕ)) → (failed_reads : S → ℕ) → (first : List ℕ) → Counts → StateData S → OutcomeData Note → Type 0
-MayGiveOpened left failed_reads first counts rest outcome =
-    ((outcome.fault ≡ Some Unreadable) × MayFailFrom left failed_reads rest.source)
-    ⊎ ((read : List SubmissionData) × (end : Result (Option SummaryData) ReadFault) × MayGive left rest read end
-    × (outcome ≡ record { read = read; fault = Some (note_at first (counts_with counts read) end) }))
+-- the note of an opened tracefile whose rest is read as these submissions up to this end
+abbrev pub note_after : {S : Type 0} → List RuleData → Opened S → List SubmissionData → Result (Option SummaryData) ReadFault → Note
+note_after rules opened read end = note_at opened.first (counts_with opened.counts read) (used_with rules opened.used read) end
+
+-- what may come of the rest of an opened tracefile: it can't be read, or it is read up to an end, and gets its new names
+abbrev pub MayGiveOpened : {S : Type 0} → (left : S → Option (List ℕ)) → (failed_reads : S → ℕ) → NamesData → Opened S → OutcomeData Note → Type 0
+MayGiveOpened left failed_reads new opened outcome =
+    ((outcome.fault ≡ Some Unreadable) × MayFailFrom left failed_reads opened.rest.source)
+    ⊎ ((read : List SubmissionData) × (end : Result (Option SummaryData) ReadFault) × MayGive left opened.rest read end
+    × (outcome ≡ record { read = map (named new) read; fault = Some (note_after new.rules opened read end) }))
 
 -- what may come of a file that was opened before
-abbrev pub MayGiveLater : {S : Type 0} → (left : S → Option (List ℕ)) → (failed_reads : S → ℕ) → Stage S → OutcomeData Note → Type 0
-MayGiveLater left failed_reads stages.Unopened outcome = ⊥
-MayGiveLater left failed_reads (stages.Reading opened) outcome = MayGiveOpened left failed_reads opened.first opened.counts opened.rest outcome
-MayGiveLater left failed_reads (stages.Ended note) outcome = outcome ≡ record { read = []; fault = Some note }
+abbrev pub MayGiveLater : {S : Type 0} → (left : S → Option (List ℕ)) → (failed_reads : S → ℕ) → NamesData → Stage S → OutcomeData Note → Type 0
+MayGiveLater left failed_reads new stages.Unopened outcome = ⊥
+MayGiveLater left failed_reads new (stages.Reading opened) outcome = MayGiveOpened left failed_reads new opened outcome
+MayGiveLater left failed_reads new (stages.Ended note) outcome = outcome ≡ record { read = []; fault = Some note }
 
 -- what may come of a file at this stage
-abbrev pub MayGiveFrom : {S : Type 0} → (left : S → Option (List ℕ)) → (failed_reads : S → ℕ) → FolderData → Strictness → (name : List ℕ) → Stage S → OutcomeData Note → Type 0
-MayGiveFrom left failed_reads folder strictness name stages.Unopened outcome = IsOfFile folder strictness name outcome
-MayGiveFrom left failed_reads folder strictness name (stages.Reading opened) outcome = MayGiveLater left failed_reads (stages.Reading opened) outcome
-MayGiveFrom left failed_reads folder strictness name (stages.Ended note) outcome = MayGiveLater left failed_reads (stages.Ended note) outcome
+abbrev pub MayGiveFrom : {S : Type 0} → (left : S → Option (List ℕ)) → (failed_reads : S → ℕ) → FolderData → NamesData → Strictness → (name : List ℕ) → Stage S → OutcomeData Note → Type 0
+MayGiveFrom left failed_reads folder new strictness name stages.Unopened outcome = IsOfFile folder new strictness name outcome
+MayGiveFrom left failed_reads folder new strictness name (stages.Reading opened) outcome = MayGiveLater left failed_reads new (stages.Reading opened) outcome
+MayGiveFrom left failed_reads folder new strictness name (stages.Ended note) outcome = MayGiveLater left failed_reads new (stages.Ended note) outcome
 
 -- the file was opened before
 abbrev pub IsLater : {S : Type 0} → Stage S → Type 0
@@ -101,17 +113,17 @@ most_parts (stages.Reading opened) = opened.rest.left
 most_parts (stages.Ended note) = 0
 
 -- a file that gives what the opened tracefile gives
-pub record IsOpenedFor {S : Type 0} (left : S → Option (List ℕ)) (failed_reads : S → ℕ) (folder : FolderData) (strictness : Strictness) (name : List ℕ) (stage : Stage S) (opened : Opened S) : Type 0 where
-  pub gives : (outcome : OutcomeData Note) → MayGiveOpened left failed_reads opened.first opened.counts opened.rest outcome → MayGiveFrom left failed_reads folder strictness name stage outcome
+pub record IsOpenedFor {S : Type 0} (left : S → Option (List ℕ)) (failed_reads : S → ℕ) (folder : FolderData) (new : NamesData) (strictness : Strictness) (name : List ℕ) (stage : Stage S) (opened : Opened S) : Type 0 where
+  pub gives : (outcome : OutcomeData Note) → MayGiveOpened left failed_reads new opened outcome → MayGiveFrom left failed_reads folder new strictness name stage outcome
   pub most : opened.rest.left ≡ most_parts stage
 
--- a piece of an opened tracefile was read as this submission, and this is the next stage: whatever that gives, the tracefile may give with
--- the submission in front
-pub record IsNextStage {S : Type 0} (left : S → Option (List ℕ)) (failed_reads : S → ℕ) (opened : Opened S) (submission : SubmissionData) (stage : Stage S) : Type 0 where
+-- a piece of an opened tracefile was read, this is its submission with its new names, and this is the next stage: whatever that
+-- gives, the tracefile may give with the submission in front
+pub record IsNextStage {S : Type 0} (left : S → Option (List ℕ)) (failed_reads : S → ℕ) (new : NamesData) (opened : Opened S) (submission : SubmissionData) (stage : Stage S) : Type 0 where
   pub later : IsLater stage
   pub fewer : most_parts stage < opened.rest.left
-  pub gives : (outcome : OutcomeData Note) → MayGiveLater left failed_reads stage outcome
-      → MayGiveOpened left failed_reads opened.first opened.counts opened.rest (in_front submission outcome)
+  pub gives : (outcome : OutcomeData Note) → MayGiveLater left failed_reads new stage outcome
+      → MayGiveOpened left failed_reads new opened (in_front submission outcome)
 
 -- a file gives nothing more: it ends with its note, or memory ran out
 abbrev pub EndsWith : (MayGive : OutcomeData Note → Type 0) → Stop → Type 0
@@ -151,6 +163,25 @@ of_pattern option patterns.TooMany = works.Call (ManyPatterns option)
 of_pattern option patterns.TooLong = works.Call (LongPattern option)
 of_pattern option patterns.Memory = works.Memory
 
+-- the word of `--path` is no rule
+abbrev pub IsWordFault : (word : List ℕ) → WorkFault → Type 0
+IsWordFault word (works.Call (BadPath fault same)) = (same.now ≡ word) × IsRuleFault word fault
+IsWordFault word (works.Call other) = ⊥
+IsWordFault word works.Memory = Unit {0}
+
+-- no test can have the name of the one test
+abbrev pub IsTestFault : Option (List ℕ) → WorkFault → Type 0
+IsTestFault test (works.Call (BadTest told)) = (test ≡ Some told.now) × (IsGoodTest told.now → ⊥)
+IsTestFault test (works.Call other) = ⊥
+IsTestFault test works.Memory = ⊥
+
+-- the one test can't have its name, or a word of `--path` is no rule
+abbrev pub IsNewNameFault : CombineOptions → WorkFault → Type 0
+IsNewNameFault options (works.Call (BadTest told)) = IsTestFault options.test (works.Call (BadTest told))
+IsNewNameFault options (works.Call (BadPath fault word)) = Contains options.paths word.now × IsRuleFault word.now fault
+IsNewNameFault options (works.Call other) = ⊥
+IsNewNameFault options works.Memory = Unit {0}
+
 -- the word of an option is no rate
 abbrev pub IsRateFault : CallOption → Option (List ℕ) → WorkFault → Type 0
 IsRateFault option word (works.Call (NoRate same told)) = (same ≡ option) × (word ≡ Some told.now) × (IsRate told.now → ⊥)
@@ -173,11 +204,27 @@ IsNameFault names (works.Call (Twice name)) = IsTwice names name.now
 IsNameFault names (works.Call other) = ⊥
 IsNameFault names works.Memory = Unit {0}
 
+-- two names of one file, the earlier one first; `None` if the folder told all files apart
+abbrev pub IsOneFileIfAny : FolderData → List (List ℕ) → Option (List ℕ × List ℕ) → Type 0
+IsOneFileIfAny folder names None = AreApart folder names
+IsOneFileIfAny folder names (Some same) = AreOneFile folder names same.0 same.1
+
+abbrev pub IsOneFileFault : FolderData → List (List ℕ) → WorkFault → Type 0
+IsOneFileFault folder names (works.Call (OneFile first second)) = AreOneFile folder names first.now second.now
+IsOneFileFault folder names (works.Call other) = ⊥
+IsOneFileFault folder names works.Memory = Unit {0}
+
 -- there is a file, or no option asks for an overview
 abbrev pub HasRoom : CombineOptions → (file : Option (List ℕ)) → Type 0
 HasRoom options file = (option : CallOption) → file ≡ None → AsksForOverview option options → ⊥
 
+-- an option asks for an overview, and there is no file
+abbrev pub IsRoomFault : CombineOptions → (file : Option (List ℕ)) → WorkFault → Type 0
+IsRoomFault options file (works.Call (NoRoom option)) = (file ≡ None) × AsksForOverview option options
+IsRoomFault options file (works.Call other) = ⊥
+IsRoomFault options file works.Memory = ⊥
+
 -- the work isn't begun: for a fault of the call, or since memory ran out
-abbrev pub IsWorkFault : CombineOptions → (file : Option (List ℕ)) → WorkFault → Type 0
-IsWorkFault options file (works.Call fault) = IsCallFault options file fault
-IsWorkFault options file works.Memory = Unit {0}
+abbrev pub IsWorkFault : FolderData → CombineOptions → (names : List (List ℕ)) → (file : Option (List ℕ)) → WorkFault → Type 0
+IsWorkFault folder options names file (works.Call fault) = IsCallFault folder options names file fault
+IsWorkFault folder options names file works.Memory = Unit {0}

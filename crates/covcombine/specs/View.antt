@@ -13,6 +13,7 @@ use Rattle.covcombine.specs.declared.work.Work.{Work}
 abbrev pub work_data : Work → CombineData
 work_data work = record {
   files = map string_bytes work.files.now;
+  new = work.new_names;
   strictness = work.strictness;
   choice = choice_data work.choice;
   overview = work.overview;

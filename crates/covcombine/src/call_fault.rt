@@ -1,6 +1,7 @@
 //! Why a call isn't begun.
 
 use covdata::Memory;
+use covpaths::RuleFault;
 
 /// An option that may be wrong.
 #[derive(Clone, Copy)]
@@ -50,12 +51,24 @@ pub(crate) enum CallFault<'a> {
     LongPattern(CallOption),
     /// The word of the option is no percentage.
     NoRate(CallOption, &'a [u8]),
+    /// This word of `--path` is no rule.
+    BadPath(RuleFault, &'a str),
+    /// No test can have this name.
+    BadTest(&'a [u8]),
     /// The option asks for an overview, but standard output has the tracefile.
     NoRoom(CallOption),
     /// No file is named.
     NoName,
     /// This file is named twice.
     Twice(&'a str),
+    /// Two names of one file: the first one, and another one.
+    OneFile(&'a str, &'a str),
+    /// The list of names can't be read. Standard input has a name in words.
+    UnreadList(&'a [u8]),
+    /// The list of names has more than 64 MiB.
+    LongList(&'a [u8]),
+    /// In the list of names, the name with this number isn't UTF-8.
+    NotText(&'a [u8], u64),
 }
 
 /// Why the work of a call can't begin.

@@ -8,14 +8,14 @@ ghost use Rattle.covbook.specs.View.{answer_data};
 ghost use Rattle.covtable.specs.ValuesView.{file_totals_data};
 ghost use Rattle.covreport.specs.ChoiceView.{choice_data};
 ghost use Rattle.covworkers.specs.Late.{MayComeAtAll};
-ghost use Rattle.covcombine.specs.Combine.{answer_status as status_of_answer, clash_lines, clash_of_answer, end_of as ends_with, failure_status as worst_status, failures as failures_of, given as given_of, is_clash as is_clash_answer, is_merged, is_whole as is_whole_call, judged_by, lines_by, merged_in, misfits_told, overview_text, pattern_lines, refusal_of, unexpected, unmatched, warning_of, warnings as warnings_of};
+ghost use Rattle.covcombine.specs.Combine.{answer_status as status_of_answer, clash_lines, clash_of_answer, end_of as ends_with, failure_status as worst_status, failures as failures_of, given as given_of, is_clash as is_clash_answer, is_merged, is_used as is_used_rule, is_whole as is_whole_call, judged_by, lines_by, merged_in, misfits_told, overview_text, pattern_lines, refusal_of, unexpected, unmatched, unused_from, warning_of, warnings as warnings_of};
 ghost use Rattle.covcombine.specs.Combined.{of_call_fault, of_collecting, out_of_memory};
 ghost use Rattle.covcombine.specs.View.{ending_data, given_data, work_data};
 
 use crate::call_fault::{CallFault, CallOption};
 use crate::messages::{
     put_call_fault, put_clash, put_expected, put_fault, put_misfits, put_no_record, put_none_left,
-    put_strange, put_unmatched, put_unreadable,
+    put_strange, put_unmatched, put_unreadable, put_unused,
 };
 use crate::note::Note;
 use crate::work::Work;
@@ -24,6 +24,7 @@ use covcommand::{Overview, Strictness, TotalsForm};
 use covdata::{Bytes, Memory};
 use covlimit::shortfall_lines;
 use covlist::{list_json, list_table, matches_a_file, summary_json, takes_a_file};
+use covpaths::PathRule;
 use covreport::{Choice, Patterns, Printing, Table, chosen_totals, summary_text};
 use covsession::{SessionFault, line_of};
 use covtable::FileTotals;
@@ -77,6 +78,7 @@ pub(crate) fn end_for_fault<'b, T: Table<Global>>(
             put_expected(u64::from(number), 0, &mut lines)?;
             Ok(Ending::Fails { status: 5, lines })
         }
+        (_, CallFault::UnreadList(_)) => Ok(Ending::Fails { status: 1, lines }),
         _ => Ok(Ending::Fails { status: 2, lines }),
     }
 }
@@ -168,7 +170,7 @@ fn overview_of<T: Table<Global>>(
     }
 }
 
-/// The warnings of a call: about files, in their order, and about patterns.
+/// The warnings of a call: about files, in their order, about paths, and about patterns.
 fn warnings<T: Table<Global>>(
     alloc: Global,
     work: &Work<'_>,
@@ -184,12 +186,12 @@ fn warnings<T: Table<Global>>(
         &mut lines,
     )?;
     if let Strictness::Lenient = work.strictness {
-        put_judged(alloc, b"warning: ", &work.choice, collected, &mut lines)?;
+        put_judged(alloc, b"warning: ", work, collected, &mut lines)?;
     }
     Ok(lines)
 }
 
-/// Why a call fails: for files, in their order, for clashes, for the number of files, and for patterns.
+/// Why a call fails: for files, in their order, for clashes, for the number of files, and for paths and patterns.
 fn failures<T: Table<Global>>(
     alloc: Global,
     work: &Work<'_>,
@@ -203,7 +205,7 @@ fn failures<T: Table<Global>>(
     put_clashes(collected.book.kept(), &mut lines)?;
     put_unexpected(work.expected, notes, &mut lines)?;
     if let Strictness::Strict = work.strictness {
-        put_judged(alloc, b"", &work.choice, collected, &mut lines)?;
+        put_judged(alloc, b"", work, collected, &mut lines)?;
     }
     Ok(lines)
 }
@@ -233,7 +235,7 @@ fn put_warning(
     ensures { OnOk result (lines.new ≡ lines.old ++ warning_of strictness name.now note.now) }
 {
     match (strictness, note) {
-        (Strictness::Lenient, Note::Merged { misfits }) => {
+        (Strictness::Lenient, Note::Merged { misfits, .. }) => {
             put_if_misfits(b"warning: ", strictness, name, *misfits, lines)
         }
         _ => Ok(()),
@@ -288,7 +290,7 @@ fn put_refusal(
         }
         (Note::Faulty(fault), _) => put_fault(name.as_bytes(), *fault, lines),
         (Note::Merged { .. }, Strictness::Lenient) => Ok(()),
-        (Note::Merged { misfits }, Strictness::Strict) => {
+        (Note::Merged { misfits, .. }, Strictness::Strict) => {
             put_if_misfits(b"", strictness, name, *misfits, lines)
         }
     }
@@ -364,21 +366,57 @@ fn count_merged(notes: &[RefusedInput<Note>]) -> u64
     merged
 }
 
-/// Appends what is doubtful of the patterns, if the whole of all files was added up. `front` comes before the words of each line.
+/// Appends what is doubtful of the paths and the patterns, if the whole of all files was added up. `front` comes before the words of
+/// each line.
 fn put_judged<T: Table<Global>>(
     alloc: Global,
     front: &[u8],
-    choice: &Choice,
+    work: &Work<'_>,
     collected: &CollectedBook<T, Note>,
     lines: &mut Bytes,
 ) -> Result<(), Memory>
-    ensures { OnOk result (lines.new ≡ lines.old ++ judged_by front.now (choice_data choice.now) collected.now.book.entries collected.now.refused) }
+    ensures { OnOk result (lines.new ≡ lines.old ++ judged_by front.now (work_data work.now) collected.now.book.entries collected.now.refused) }
 {
     if !is_whole(collected) {
         return Ok(());
     }
+    put_paths(
+        front,
+        work.new_names.rules(),
+        collected.refused.get(),
+        lines,
+    )?;
     let files = collected.book.store().files(alloc)?;
-    put_patterns(front, choice, files.as_slice(), lines)
+    put_patterns(front, &work.choice, files.as_slice(), lines)
+}
+
+/// Appends a line about each of the `rules` for paths that was applied to no source file.
+fn put_paths(
+    front: &[u8],
+    rules: &[PathRule<'_>],
+    notes: &[RefusedInput<Note>],
+    lines: &mut Bytes,
+) -> Result<(), Memory>
+    ensures { OnOk result (lines.new ≡ lines.old ++ unused_from front.now notes.now 0 rules.now) }
+{
+    for place in 0..rules.len() {
+        if !is_used(notes, place) {
+            put_unused(front, rules[place].old(), rules[place].new(), lines)?;
+        }
+    }
+    Ok(())
+}
+
+/// Whether the rule for paths at this place was applied to a source file.
+fn is_used(notes: &[RefusedInput<Note>], rule: usize) -> bool
+    ensures { result ≡ is_used_rule notes.now rule }
+{
+    for note in notes {
+        if note.fault.has_used(rule) {
+            return true;
+        }
+    }
+    false
 }
 
 /// Whether each file was read, and all of it was added up.

@@ -1,8 +1,9 @@
 //! The call `combine`: merges the tracefiles of many jobs, checks each of them, and shows how much is hit.
 //!
-//! `combine` makes `Work` of the options (`work`). covworkers collects the files in a book; a `Tracefile` reads a file when its turn
-//! comes, and ends with a `Note` of what came of the file. An `Ending` is made of the book and the notes (`ending`), and is reported
-//! on the streams and in the output file (`report`). `messages` has all lines of the error stream.
+//! `combine` takes the names of the files from its words and its list (`file_names`), and makes `Work` of the options (`work`).
+//! covworkers collects the files in a book; a `Tracefile` reads a file when its turn comes, gives each chunk its new names (covpaths),
+//! and ends with a `Note` of what came of the file. An `Ending` is made of the book and the notes (`ending`), and is reported on the
+//! streams and in the output file (`report`). `messages` has all lines of the error stream.
 //!
 //! No function names a store: all are generic over covreport's `Table`.
 //!
@@ -34,6 +35,7 @@
 
 mod call_fault;
 mod ending;
+mod file_names;
 mod jobs;
 mod messages;
 mod note;
@@ -44,21 +46,23 @@ mod stranger;
 mod tracefile;
 mod work;
 
-ghost use Rattle.std.specs.Prelude.{◌≡◌, ℕ, List, Option, option_map};
+ghost use Rattle.std.specs.Prelude.{◌≡◌, map, option_map};
+ghost use Rattle.std.specs.String.{string_bytes};
 ghost use Rattle.covworld.specs.Folder.{folder_data};
 ghost use Rattle.covworld.specs.World.{CanCall};
 ghost use Rattle.covcombine.specs.Combine.{EndingData};
-ghost use Rattle.covcombine.specs.Combined.{Ends, IsCombineCall, IsReported, StopsEarly};
-ghost use Rattle.covcombine.specs.Steps.{IsWorkFault};
+ghost use Rattle.covcombine.specs.Combined.{Ends, IsCombineCall, IsReported, MayEndWith};
+ghost use Rattle.covcombine.specs.ListSteps.{IsEarlyEnd};
 ghost use Rattle.covcombine.specs.View.{ending_data, work_data};
 
 use crate::call_fault::WorkFault;
 use crate::ending::{Ending, end_for_collecting, end_for_fault, end_of, no_memory};
+use crate::file_names::names_of;
 use crate::jobs::jobs_for;
 use crate::report::report;
 use crate::tracefile::tracefiles;
 use crate::work::{Work, work_of};
-use covcommand::{CombineOptions, Strictness};
+use covcommand::{CombineOptions, Progress, Strictness};
 use covreport::Table;
 use covstream::{Sink, Source};
 use covworkers::{IntoBookFault, NoGate, collect_into_book};
@@ -71,15 +75,16 @@ use std::thread::Threads;
 /// it the tracefile goes to the output.
 ///
 /// The status is that of the first of these that applies, and the error stream has all lines that it asks for:
-/// - 2 if the options are wrong, or 5 if no file is named although some are expected;
+/// - 1 if the list of names can't be read;
+/// - 2 if the options or the names are wrong, or 5 if no file is named although some are expected;
 /// - 3 if memory ran out, the files have too many chunks, or the number of jobs isn't from 1 to 64;
 /// - 1, 4 or 5 for the worst of what came of the files: one can't be read (1); one is invalid, or checksums clash (4); one is no
 ///   tracefile, another number of files was read than is expected, or in a strict call something is doubtful (5);
 /// - 1 if the file or the output can't be written;
 /// - 6 if rates are below their thresholds.
 ///
-/// A call that isn't strict warns of what is doubtful: lines that don't fit their section, and patterns that match no source file or
-/// leave none.
+/// A call that isn't strict warns of what is doubtful: lines that don't fit their section, paths that apply to no source file, and
+/// patterns that match none or leave none.
 pub fn combine<
     R: Threads + Wait + Sync,
     F: Folder<File: Send> + Sync,
@@ -100,27 +105,72 @@ pub fn combine<
     requires { CanCall world.old }
     ensures { IsCombineCall (folder_data F.Folder F.File.Source folder.now) options.now strictness (option_map (λ name. name.now) file.entry) result world.old world.new }
 {
-    match work_of(alloc, options, strictness, file) {
-        Ok(work) => {
-            let jobs = jobs_for(rt, options.jobs, work.files.len());
-            do_work::<R, F, P, I, O, E, T>(rt, folder, alloc, work, jobs, file, world)
+    match names_of(folder, alloc, options, &mut world.input) {
+        Ok(names) => combine_files::<R, F, P, I, O, E, T>(
+            rt,
+            folder,
+            alloc,
+            options,
+            names.get(),
+            strictness,
+            file,
+            world,
+        ),
+        Err(fault) => {
+            let ending = early_end(alloc, options.expected, fault);
+            report::<P, I, O, E, T>(alloc, ending, file, world)
         }
-        Err(fault) => report::<P, I, O, E, T>(alloc, early_end(alloc, options, fault), file, world),
     }
 }
 
-/// The ending of a call whose work can't begin.
-fn early_end<'b, T: Table<Global>>(
+/// Merges the files called `names`, as `combine` does after it has their names.
+fn combine_files<
+    R: Threads + Wait + Sync,
+    F: Folder<File: Send> + Sync,
+    P: OutputFolder,
+    I: Source,
+    O: Sink,
+    E: Sink,
+    T: Table<Global, Plan: Send, Renaming: Send> + Send,
+>(
+    rt: &R,
+    folder: &F,
     alloc: Global,
     options: &CombineOptions,
+    names: &[String],
+    strictness: Strictness,
+    file: Option<&str>,
+    world: &mut World<P, I, O, E>,
+) -> u8
+    requires { CanCall world.old }
+    ensures input { world.new.input ≡ world.old.input }
+    ensures reported { (ending : EndingData) × MayEndWith (folder_data F.Folder F.File.Source folder.now) options.now (map string_bytes names.now) strictness (option_map (λ name. name.now) file.entry) ending
+        × IsReported (option_map (λ name. name.now) file.entry) ending result world.old world.new }
+{
+    match work_of(folder, alloc, options, names, strictness, file) {
+        Ok(work) => {
+            let jobs = jobs_for(rt, options.jobs, names.len());
+            do_work::<R, F, P, I, O, E, T>(rt, folder, alloc, work, jobs, file, world)
+        }
+        Err(fault) => {
+            let ending = early_end(alloc, options.expected, fault);
+            report::<P, I, O, E, T>(alloc, ending, file, world)
+        }
+    }
+}
+
+/// The ending of a call whose work can't begin. `expected` is the number of files that the call expects.
+fn early_end<'b, T: Table<Global>>(
+    alloc: Global,
+    expected: Option<u32>,
     fault: WorkFault<'_>,
 ) -> Ending<'b, T>
-    ensures { (file : Option (List ℕ)) → IsWorkFault options.now file fault.entry → StopsEarly options.now file (ending_data result) }
+    ensures { IsEarlyEnd expected fault.entry (ending_data result) }
 {
     let WorkFault::Call(fault) = fault else {
         return no_memory();
     };
-    match end_for_fault(alloc, options.expected, fault) {
+    match end_for_fault(alloc, expected, fault) {
         Ok(ending) => ending,
         Err(_) => no_memory(),
     }
@@ -149,10 +199,18 @@ fn do_work<
     ensures reported { (ending : EndingData) × Ends (folder_data F.Folder F.File.Source folder.now) jobs (work_data work.entry) ending
         × IsReported (option_map (λ name. name.now) file.entry) ending result world.old world.new }
 {
-    let Ok(inputs) = tracefiles(folder, alloc, work.strictness, work.files) else {
+    let Ok(inputs) = tracefiles(folder, alloc, &work.new_names, work.strictness, work.files) else {
         return report::<P, I, O, E, T>(alloc, no_memory(), file, world);
     };
-    match collect_into_book(rt, alloc, inputs, jobs, &NoGate) {
+    let shows = shows_progress(work.progress);
+    if shows {
+        folder.begin_reading(work.files);
+    }
+    let collected = collect_into_book(rt, alloc, inputs, jobs, &NoGate);
+    if shows {
+        folder.end_reading();
+    }
+    match collected {
         Ok(collected) => match end_of::<T>(alloc, work, &collected) {
             Ok(ending) => report(alloc, ending, file, world),
             Err(_) => report::<P, I, O, E, T>(alloc, no_memory(), file, world),
@@ -162,5 +220,13 @@ fn do_work<
         }
         // A file that can't be read has a note.
         Err(IntoBookFault::Unread { .. }) => unreachable!(),
+    }
+}
+
+/// Whether the folder is told how far reading is.
+fn shows_progress(progress: Progress) -> bool {
+    match progress {
+        Progress::Shown => true,
+        Progress::Quiet => false,
     }
 }

@@ -2,13 +2,14 @@
 
 ghost use Rattle.std.specs.Prelude.{◌≡◌, ◌++◌, None, Some, OnOk, codes, decimal};
 ghost use Rattle.covlist.specs.Shown.{shown_name};
-ghost use Rattle.covcombine.specs.Messages.{begins_words, call_fault_line, clash_line, counted, cut_line, error_line, expected_line, fault_line, line_fault_words as words_of_line_fault, misfit_words as words_of_misfits, misfits_line, no_record_line, no_record_words, none_left_line, option_name, packed_words, quoted, quoted_byte, strange_words, told, told_at, unmatched_line, unreadable_line, unwritten_line};
+ghost use Rattle.covcombine.specs.Messages.{begins_words, call_fault_line, clash_line, counted, cut_line, error_line, expected_line, fault_line, line_fault_words as words_of_line_fault, misfit_words as words_of_misfits, misfits_line, no_record_line, no_record_words, none_left_line, option_name, packed_words, quoted, quoted_byte, rule_fault_words as words_of_rule_fault, strange_words, told, told_at, unmatched_line, unreadable_line, unused_line, unwritten_line};
 
 use crate::call_fault::{CallFault, CallOption};
 use crate::stranger::Stranger;
 use covcommand::Strictness;
 use covdata::{Bytes, LineFault, Memory, ReadFault};
 use covlist::put_shown_name;
+use covpaths::RuleFault;
 
 /// Appends a number and a space, and then `one` if the number is 1, otherwise `many`.
 fn put_counted(number: u64, one: &[u8], many: &[u8], lines: &mut Bytes) -> Result<(), Memory>
@@ -255,6 +256,23 @@ pub(crate) fn put_unmatched(
     lines.append(b": matches no source file\n")
 }
 
+/// Appends the line about a rule for paths that was applied to no source file. `front` comes before the words.
+pub(crate) fn put_unused(
+    front: &[u8],
+    old: &[u8],
+    new: &[u8],
+    lines: &mut Bytes,
+) -> Result<(), Memory>
+    ensures { OnOk result (lines.new ≡ lines.old ++ unused_line front.now (record { old = old.now; new = new.now })) }
+{
+    lines.append(front)?;
+    lines.append(b"--path ")?;
+    put_shown_name(old, lines)?;
+    lines.append(b"=")?;
+    put_shown_name(new, lines)?;
+    lines.append(b": applies to no source file\n")
+}
+
 /// Appends the line about patterns that leave no source file. `front` comes before the words.
 pub(crate) fn put_none_left(front: &[u8], lines: &mut Bytes) -> Result<(), Memory>
     ensures { OnOk result (lines.new ≡ lines.old ++ none_left_line front.now) }
@@ -325,6 +343,8 @@ pub(crate) fn put_call_fault(fault: CallFault<'_>, lines: &mut Bytes) -> Result<
             put_error(option, b": a pattern has more than 1024 bytes", lines)
         }
         CallFault::NoRate(option, word) => put_no_rate(option, word, lines),
+        CallFault::BadPath(fault, word) => put_bad_path(fault, word.as_bytes(), lines),
+        CallFault::BadTest(test) => put_bad_test(test, lines),
         CallFault::NoRoom(option) => put_error(
             option,
             b": needs -o FILE, since standard output has the tracefile",
@@ -334,6 +354,12 @@ pub(crate) fn put_call_fault(fault: CallFault<'_>, lines: &mut Bytes) -> Result<
             lines.append(b"error: no file is named: did a pattern match nothing?\n")
         }
         CallFault::Twice(name) => put_told(name.as_bytes(), b"named twice", lines),
+        CallFault::OneFile(first, name) => put_one_file(first.as_bytes(), name.as_bytes(), lines),
+        CallFault::UnreadList(list) => put_unreadable(list, lines),
+        CallFault::LongList(list) => put_told(list, b"more than 64 MiB", lines),
+        CallFault::NotText(list, number) => {
+            put_told_at(list, number, b"the name isn't UTF-8", lines)
+        }
     }
 }
 
@@ -345,6 +371,48 @@ fn put_error(option: CallOption, words: &[u8], lines: &mut Bytes) -> Result<(), 
     lines.append(option.name())?;
     lines.append(words)?;
     lines.append(b"\n")
+}
+
+/// Appends the line about the file called `name`, which was named before, as `first`.
+fn put_one_file(first: &[u8], name: &[u8], lines: &mut Bytes) -> Result<(), Memory>
+    ensures { OnOk result (lines.new ≡ lines.old ++ told name.now (codes "the same file as " ++ shown_name first.now)) }
+{
+    put_name(name, lines)?;
+    lines.append(b"the same file as ")?;
+    put_shown_name(first, lines)?;
+    lines.append(b"\n")
+}
+
+/// Appends the line about the `word` of `--path`, which is no rule.
+fn put_bad_path(fault: RuleFault, word: &[u8], lines: &mut Bytes) -> Result<(), Memory>
+    ensures { OnOk result (lines.new ≡ lines.old ++ error_line (codes "--path " ++ (shown_name word.now ++ words_of_rule_fault fault))) }
+{
+    lines.append(b"error: --path ")?;
+    put_shown_name(word, lines)?;
+    lines.append(rule_fault_words(fault))?;
+    lines.append(b"\n")
+}
+
+/// Appends the line about a name that no test can have.
+fn put_bad_test(test: &[u8], lines: &mut Bytes) -> Result<(), Memory>
+    ensures { OnOk result (lines.new ≡ lines.old ++ error_line (codes "--one-test=" ++ (shown_name test.now
+        ++ codes ": a test's name has no line feed, and no carriage return at its end"))) }
+{
+    lines.append(b"error: --one-test=")?;
+    put_shown_name(test, lines)?;
+    lines.append(b": a test's name has no line feed, and no carriage return at its end\n")
+}
+
+/// What is wrong with a word that is no rule for paths.
+fn rule_fault_words(fault: RuleFault) -> &'static [u8]
+    ensures { result.now ≡ words_of_rule_fault fault }
+{
+    match fault {
+        RuleFault::NoSign => b": OLD=NEW was expected",
+        RuleFault::NoOld => b": nothing stands before the =",
+        RuleFault::BadNew => b": a path has no line feed, and no carriage return at its end",
+        RuleFault::Slashes => b": end both OLD and NEW in a slash, or neither",
+    }
 }
 
 /// Appends the line about the `word` of `option`, which is no percentage.

@@ -6,6 +6,7 @@ ghost use Rattle.covcombine.specs.Notes.{note_of as note_with};
 use crate::stranger::{Stranger, first_line};
 use covdata::{Bytes, Memory, ReadFault};
 use covpacked::PackedSubmission;
+use covpaths::UsedRules;
 use std::alloc::Global;
 
 /// How many sections, items and inconsistent lines (`odd`) the chunks of a tracefile have so far. Numbers saturate at 2^64 - 1.
@@ -54,13 +55,14 @@ pub(crate) enum Note {
     NoRecord { begins: Bytes, sections: u64 },
     /// The tracefile is invalid.
     Faulty(ReadFault),
-    /// The tracefile was merged. `misfits` is the number of lines that don't fit.
-    Merged { misfits: u64 },
+    /// The tracefile was merged. `misfits` is the number of lines that don't fit, and `used` are the rules for paths that were applied
+    /// to its source files.
+    Merged { misfits: u64, used: UsedRules },
 }
 
 impl Note {
     ghost use Rattle.std.specs.Prelude.{◌≡◌};
-    ghost use Rattle.covcombine.specs.Combine.{is_merged as is_merged_note, note_status};
+    ghost use Rattle.covcombine.specs.Combine.{has_used as has_used_rule, is_merged as is_merged_note, note_status};
 
     /// Whether the tracefile was merged.
     pub(crate) fn is_merged(&self) -> bool
@@ -68,6 +70,16 @@ impl Note {
     {
         match self {
             Note::Merged { .. } => true,
+            Note::Unreadable | Note::Strange(_) | Note::NoRecord { .. } | Note::Faulty(_) => false,
+        }
+    }
+
+    /// Whether the rule for paths at this place was applied to a source file of the tracefile.
+    pub(crate) fn has_used(&self, rule: usize) -> bool
+        ensures { result ≡ has_used_rule self.now rule }
+    {
+        match self {
+            Note::Merged { used, .. } => used.get(rule),
             Note::Unreadable | Note::Strange(_) | Note::NoRecord { .. } | Note::Faulty(_) => false,
         }
     }
@@ -84,15 +96,16 @@ impl Note {
     }
 }
 
-/// The note of a tracefile that was read to its end. `first` are its first bytes, and `unknown` is the number of its lines of unknown
-/// keys.
+/// The note of a tracefile that was read to its end. `first` are its first bytes, `unknown` is the number of its lines of unknown keys,
+/// and `used` are the rules for paths that were applied.
 pub(crate) fn note_of(
     alloc: Global,
     first: &[u8],
     counts: Counts,
     unknown: u64,
+    used: UsedRules,
 ) -> Result<Note, Memory>
-    ensures { IfOk result (λ note. note ≡ note_with first.now counts unknown) }
+    ensures { IfOk result (λ note. note ≡ note_with first.now counts unknown used) }
 {
     if counts.items == 0 {
         return Ok(Note::NoRecord {
@@ -102,5 +115,6 @@ pub(crate) fn note_of(
     }
     Ok(Note::Merged {
         misfits: counts.odd.saturating_add(unknown),
+        used,
     })
 }

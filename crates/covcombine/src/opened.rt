@@ -1,12 +1,13 @@
 //! Opened tracefiles, and how far a file is read.
 
-ghost use Rattle.std.specs.Prelude.{◌≡◌, ◌≤◌, ◌++◌, ◌^◌, ℕ, List, Option, Result, length, option_map, IfOk, IfErr};
+ghost use Rattle.std.specs.Prelude.{◌≡◌, ◌≤◌, ◌++◌, ◌^◌, ℕ, List, Option, Result, length, option_map, IfOk, IfErr, OnOk};
 ghost use Rattle.covdata.specs.Row.{SubmissionData};
 ghost use Rattle.covdata.specs.declared.fault.ReadFault.{ReadFault as Fault};
 ghost use Rattle.covdata.specs.declared.version.LcovVersion.TheVariants.{Two};
 ghost use Rattle.covlarge.specs.Large.{MayBeReadAs, max_pieces};
 ghost use Rattle.covlarge.specs.State.{MayGive};
 ghost use Rattle.covlarge.specs.Summary.{SummaryData};
+ghost use Rattle.covpaths.specs.Names.{named, used_after};
 ghost use Rattle.covstream.specs.Blocks.{HasReadAtMost, IsReadFault};
 ghost use Rattle.covworld.specs.Folder.{folder_data};
 ghost use Rattle.covcombine.specs.Notes.{IsOfFile};
@@ -22,6 +23,7 @@ use covcommand::{LcovVersion, Strictness};
 use covdata::{Bytes, Memory};
 use covlarge::{Held, LargeTracefile, NextPiece};
 use covpacked::PackedSubmission;
+use covpaths::{NewNames, UsedRules, rename};
 use covstream::{BlockFault, Source, read_at_most};
 use covworkers::Given;
 use covworld::Folder;
@@ -38,11 +40,12 @@ pub(crate) enum Stage<S: Source> {
     Ended(Note),
 }
 
-/// An opened tracefile: its first bytes, what its chunks have so far, and the chunks to come.
+/// An opened tracefile: its first bytes, what its chunks have so far, the rules for paths that were applied, and the chunks to come.
 #[derive(Drop)]
 pub(crate) struct Opened<S: Source> {
     first: Bytes,
     counts: Counts,
+    used: UsedRules,
     rest: LargeTracefile<S>,
 }
 
@@ -50,44 +53,58 @@ impl<S: Source + Drop> Opened<S> {
     ghost use Rattle.std.specs.Prelude.{◌≡◌, IfOk, IfErr};
     ghost use Rattle.covcombine.specs.Steps.{EndsWith, IsNextStage, MayGiveOpened};
 
-    /// Reads the next chunk. Returns the chunk's submission and the next stage.
-    pub(crate) fn next_stage(self, alloc: Global) -> Result<(Given, Stage<S>), Stop>
-        ensures next { IfOk result (λ r. IsNextStage S.left S.failed_reads self r.0 r.1) }
-        ensures ended { IfErr result (EndsWith (MayGiveOpened S.left S.failed_reads self.first self.counts self.rest)) }
+    /// Reads the next chunk. Returns the chunk's submission with its new names, and the next stage.
+    pub(crate) fn next_stage(
+        self,
+        alloc: Global,
+        new_names: &NewNames<'_>,
+    ) -> Result<(Given, Stage<S>), Stop>
+        ensures next { IfOk result (λ r. IsNextStage S.left S.failed_reads new_names.now self r.0 r.1) }
+        ensures ended { IfErr result (EndsWith (MayGiveOpened S.left S.failed_reads new_names.now self)) }
     {
         let Opened {
             first,
             counts,
+            mut used,
             rest,
         } = self;
         let piece = rest.next_piece(alloc)?;
         match piece {
             NextPiece::More(submission, rest) => {
                 let counts = counts.and(&submission);
-                let given = share(alloc, submission)?;
+                let given = share(alloc, new_names, submission, &mut used)?;
                 Ok((
                     given,
                     Stage::Reading(Opened {
                         first,
                         counts,
+                        used,
                         rest,
                     }),
                 ))
             }
             NextPiece::Last(submission, held) => {
                 let counts = counts.and(&submission);
-                let note = note_of(alloc, first.get(), counts, unknown_in(&held))?;
-                let given = share(alloc, submission)?;
+                let given = share(alloc, new_names, submission, &mut used)?;
+                let note = note_of(alloc, first.get(), counts, unknown_in(&held), used)?;
                 Ok((given, Stage::Ended(note)))
             }
         }
     }
 }
 
-/// Makes a chunk's submission shareable, as collecting takes submissions.
-fn share(alloc: Global, submission: PackedSubmission) -> Result<Given, Memory>
-    ensures { IfOk result (λ given. given ≡ submission) }
+/// Gives a chunk's submission its new names, marks in `used` the rules that are applied, and makes the submission shareable, as
+/// collecting takes submissions.
+fn share(
+    alloc: Global,
+    new_names: &NewNames<'_>,
+    submission: PackedSubmission,
+    used: &mut UsedRules,
+) -> Result<Given, Memory>
+    ensures named { IfOk result (λ given. given ≡ named new_names.now submission) }
+    ensures used { OnOk result (used.new ≡ used_after new_names.now.rules used.old submission.sects) }
 {
+    let submission = rename(alloc, new_names, submission, used)?;
     Ok(Given::packed(PackedRef::of(alloc, submission)?))
 }
 
@@ -106,10 +123,11 @@ pub(crate) fn open_file<F: Folder>(
     folder: &F,
     alloc: Global,
     name: &str,
+    new_names: &NewNames<'_>,
     strictness: Strictness,
 ) -> Result<Opened<F::File>, Stop>
-    ensures opened { IfOk result (IsOpenedFor F.File.left F.File.failed_reads (folder_data F.Folder F.File.Source folder.now) strictness name.now Unopened) }
-    ensures ended { IfErr result (EndsWith (IsOfFile (folder_data F.Folder F.File.Source folder.now) strictness name.now)) }
+    ensures opened { IfOk result (IsOpenedFor F.File.left F.File.failed_reads (folder_data F.Folder F.File.Source folder.now) new_names.now strictness name.now Unopened) }
+    ensures ended { IfErr result (EndsWith (IsOfFile (folder_data F.Folder F.File.Source folder.now) new_names.now strictness name.now)) }
 {
     let Ok(file) = folder.open(name) else {
         return Err(Stop::Ended(Note::Unreadable));
@@ -123,6 +141,7 @@ pub(crate) fn open_file<F: Folder>(
             Ok(Opened {
                 first,
                 counts: Counts::none(),
+                used: UsedRules::none(alloc, new_names.rules().len())?,
                 rest: begin(alloc, strictness, begun, source),
             })
         }

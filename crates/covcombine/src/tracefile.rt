@@ -5,6 +5,7 @@ use crate::opened::{Opened, Stage, open_file};
 use crate::stop::Stop;
 use covcommand::Strictness;
 use covdata::Memory;
+use covpaths::NewNames;
 use covworkers::{LateFault, LateInput, Part};
 use covworld::Folder;
 use std::alloc::Global;
@@ -15,6 +16,7 @@ use std::alloc::Global;
 pub(crate) struct Tracefile<'a, F: Folder> {
     folder: &'a F,
     name: &'a str,
+    new_names: &'a NewNames<'a>,
     strictness: Strictness,
     stage: Stage<F::File>,
 }
@@ -23,7 +25,7 @@ impl<'a, F: Folder> LateInput<Global> for Tracefile<'a, F> {
     ghost use Rattle.covcombine.specs.Steps.{MayGiveFrom, most_parts};
     ghost use Rattle.covworld.specs.Folder.{folder_data};
 
-    ghost may_give = { λ late. MayGiveFrom F.File.left F.File.failed_reads (folder_data F.Folder F.File.Source late.folder.now) late.strictness late.name.now late.stage };
+    ghost may_give = { λ late. MayGiveFrom F.File.left F.File.failed_reads (folder_data F.Folder F.File.Source late.folder.now) late.new_names.now late.strictness late.name.now late.stage };
 
     // A file that can't be read has a note.
     ghost may_fail = { λ _. ⊥ };
@@ -37,14 +39,16 @@ impl<'a, F: Folder> LateInput<Global> for Tracefile<'a, F> {
         let Tracefile {
             folder,
             name,
+            new_names,
             strictness,
             stage,
         } = self;
-        let opened = opened_at(folder, alloc, name, strictness, stage)?;
-        let (given, stage) = opened.next_stage(alloc)?;
+        let opened = opened_at(folder, alloc, name, new_names, strictness, stage)?;
+        let (given, stage) = opened.next_stage(alloc, new_names)?;
         let rest = Tracefile {
             folder,
             name,
+            new_names,
             strictness,
             stage,
         };
@@ -64,14 +68,15 @@ fn opened_at<F: Folder>(
     folder: &F,
     alloc: Global,
     name: &str,
+    new_names: &NewNames<'_>,
     strictness: Strictness,
     stage: Stage<F::File>,
 ) -> Result<Opened<F::File>, Stop>
-    ensures opened { IfOk result (IsOpenedFor F.File.left F.File.failed_reads (folder_data F.Folder F.File.Source folder.now) strictness name.now stage) }
-    ensures ended { IfErr result (EndsWith (MayGiveFrom F.File.left F.File.failed_reads (folder_data F.Folder F.File.Source folder.now) strictness name.now stage)) }
+    ensures opened { IfOk result (IsOpenedFor F.File.left F.File.failed_reads (folder_data F.Folder F.File.Source folder.now) new_names.now strictness name.now stage) }
+    ensures ended { IfErr result (EndsWith (MayGiveFrom F.File.left F.File.failed_reads (folder_data F.Folder F.File.Source folder.now) new_names.now strictness name.now stage)) }
 {
     match stage {
-        Stage::Unopened => open_file(folder, alloc, name, strictness),
+        Stage::Unopened => open_file(folder, alloc, name, new_names, strictness),
         Stage::Reading(opened) => Ok(opened),
         Stage::Ended(note) => Err(Stop::Ended(note)),
     }
@@ -81,17 +86,19 @@ fn opened_at<F: Folder>(
 pub(crate) fn tracefiles<'a, F: Folder>(
     folder: &'a F,
     alloc: Global,
+    new_names: &'a NewNames<'a>,
     strictness: Strictness,
     names: &'a [String],
 ) -> Result<Vec<Tracefile<'a, F>>, Memory>
     ensures names { IfOk result (λ inputs. map (λ i. i.name.now) inputs.items ≡ map string_bytes names.now) }
-    ensures own { IfOk result (λ inputs. AllByRecursion (λ i. (i.folder.now ≡ folder.now) × (i.strictness ≡ strictness) × (i.stage ≡ Unopened)) inputs.items) }
+    ensures own { IfOk result (λ inputs. AllByRecursion (λ i. (i.folder.now ≡ folder.now) × (i.new_names.now ≡ new_names.entry.now) × (i.strictness ≡ strictness) × (i.stage ≡ Unopened)) inputs.items) }
 {
     let mut inputs = Vec::with_capacity(alloc, names.len())?;
     for name in names {
         inputs.push(Tracefile {
             folder,
             name: name.as_str(),
+            new_names,
             strictness,
             stage: Stage::Unopened,
         })?;

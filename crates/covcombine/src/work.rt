@@ -1,31 +1,39 @@
 //! The work of a call, made of its options.
 
-ghost use Rattle.std.specs.Prelude.{◌≡◌, ℕ, List, Option, map, option_map, IfOk, IfErr, IfSome};
+ghost use Rattle.std.specs.Prelude.{◌≡◌, ℕ, List, Option, Some, map, option_map, IfOk, IfErr, IfSome};
 ghost use Rattle.std.specs.String.{string_bytes};
 ghost use Rattle.covlimit.specs.LimitsView.{limits_data};
 ghost use Rattle.covlimit.specs.Rates.{IsRate};
+ghost use Rattle.covpaths.specs.Names.{AreGoodNames, IsGoodTestIfAny};
+ghost use Rattle.covpaths.specs.Paths.{IsGoodRule, rule_of as rule_of_word};
 ghost use Rattle.covreport.specs.ChoiceView.{choice_data};
 ghost use Rattle.covcombine.specs.declared.call_fault.CallOption.{CallOption as AnOption};
-ghost use Rattle.covcombine.specs.Options.{IsWorkOf, choice_by, limits_of as limits_with, limit_in, patterns_in};
-ghost use Rattle.covcombine.specs.Steps.{AreNames, ArePatterns, HasRoom, IsNameFault, IsPatternFault, IsRateFault, IsTwiceIfAny, IsWorkFault, of_pattern};
+ghost use Rattle.covcombine.specs.Options.{AreRulesOf, IsWorkOf, choice_by, limits_of as limits_with, limit_in, patterns_in};
+ghost use Rattle.covcombine.specs.Steps.{AreNames, ArePatterns, HasRoom, IsNameFault, IsNewNameFault, IsPatternFault, IsOneFileFault, IsOneFileIfAny, IsRateFault, IsRoomFault, IsTestFault, IsTwiceIfAny, IsWordFault, IsWorkFault, of_pattern};
+ghost use Rattle.covcombine.specs.FileNames.{AreApart};
 ghost use Rattle.covcombine.specs.View.{work_data};
+ghost use Rattle.covworld.specs.Folder.{folder_data};
 
 use crate::call_fault::{CallFault, CallOption, WorkFault};
 use covcommand::{
-    CombineOptions, Limits as LimitWords, Overview, SourceFilter, Strictness, TotalsForm,
+    CombineOptions, Limits as LimitWords, Overview, Progress, SourceFilter, Strictness, TotalsForm,
 };
-use covdata::{Bytes, Memory};
+use covdata::{Bytes, Memory, good_test};
 use covlimit::{Limits, Rate};
+use covpaths::{NewNames, PathRule};
 use covreport::{Choice, PatternFault, Patterns};
+use covworld::{FileId, Folder};
 use std::alloc::Global;
-use std::collections::BTreeSet;
+use std::collections::{BTreeMap, BTreeSet};
 
 /// The work of a call.
 #[derive(Drop)]
 pub(crate) struct Work<'a> {
     /// The files to read.
     pub(crate) files: &'a [String],
-    /// Whether doubtful files and patterns are refused.
+    /// The names under which counts are added up.
+    pub(crate) new_names: NewNames<'a>,
+    /// Whether doubtful files, paths and patterns are refused.
     pub(crate) strictness: Strictness,
     /// The source files that are printed and counted.
     pub(crate) choice: Choice,
@@ -37,31 +45,40 @@ pub(crate) struct Work<'a> {
     pub(crate) limits: Limits,
     /// How many files have to be read.
     pub(crate) expected: Option<u32>,
+    /// Whether a terminal shows how much is read.
+    pub(crate) progress: Progress,
 }
 
-/// Makes the work of `options`. `file` is the name of the output file, if the command line has one. Checks the patterns first, then
-/// the thresholds, whether an overview can be shown, and the names of the files.
-pub(crate) fn work_of<'a>(
+/// Makes the work of `options` over the files called `names`. `file` is the name of the output file, if the command line has one.
+/// Checks the patterns first, then the name of the test, the paths, the thresholds, whether an overview can be shown, and the names
+/// of the files.
+pub(crate) fn work_of<'a, F: Folder>(
+    folder: &F,
     alloc: Global,
     options: &'a CombineOptions,
+    names: &'a [String],
     strictness: Strictness,
     file: Option<&str>,
 ) -> Result<Work<'a>, WorkFault<'a>>
-    ensures work { IfOk result (λ work. IsWorkOf options.now strictness (option_map (λ name. name.now) file.entry) (work_data work)) }
-    ensures fault { IfErr result (IsWorkFault options.now (option_map (λ name. name.now) file.entry)) }
+    ensures work { IfOk result (λ work. IsWorkOf (folder_data F.Folder F.File.Source folder.now) options.now (map string_bytes names.now) strictness (option_map (λ name. name.now) file.entry) (work_data work)) }
+    ensures fault { IfErr result (IsWorkFault (folder_data F.Folder F.File.Source folder.now) options.now (map string_bytes names.now) (option_map (λ name. name.now) file.entry)) }
 {
     let choice = choice_of(alloc, &options.filter)?;
+    let new_names = new_names_of(alloc, options)?;
     let limits = limits_of(alloc, &options.limits)?;
     check_overview(options, file)?;
-    check_names(alloc, options.names.get())?;
+    check_names(alloc, names)?;
+    check_files(folder, alloc, names)?;
     Ok(Work {
-        files: options.names.get(),
+        files: names,
+        new_names,
         strictness,
         choice,
         overview: options.overview,
         form: options.form,
         limits,
         expected: options.expected,
+        progress: options.progress,
     })
 }
 
@@ -109,6 +126,48 @@ fn pattern_fault<'a>(option: CallOption, fault: PatternFault) -> WorkFault<'a>
     }
 }
 
+/// The names under which counts are added up.
+fn new_names_of<'a>(
+    alloc: Global,
+    options: &'a CombineOptions,
+) -> Result<NewNames<'a>, WorkFault<'a>>
+    ensures rules { IfOk result (λ names. AreRulesOf options.now.paths names.rules) }
+    ensures test { IfOk result (λ names. names.test ≡ options.now.test) }
+    ensures good { IfOk result AreGoodNames }
+    ensures fault { IfErr result (IsNewNameFault options.now) }
+{
+    let mut names = NewNames::of_test(alloc, test_of(options)?);
+    for word in options.paths.get() {
+        names.add(rule_of(word.as_str())?)?;
+    }
+    Ok(names)
+}
+
+/// The name of the test that all counts get, or `None` if each keeps its own.
+fn test_of<'a>(options: &'a CombineOptions) -> Result<Option<&'a [u8]>, WorkFault<'a>>
+    ensures test { IfOk result (λ test. option_map (λ name. name.now) test ≡ options.now.test) }
+    ensures good { IfOk result (λ _. IsGoodTestIfAny options.now.test) }
+    ensures fault { IfErr result (IsTestFault options.now.test) }
+{
+    match &options.test {
+        None => Ok(None),
+        Some(test) if good_test(test.get()) => Ok(Some(test.get())),
+        Some(test) => Err(WorkFault::Call(CallFault::BadTest(test.get()))),
+    }
+}
+
+/// Parses `word` as a rule for paths.
+fn rule_of<'a>(word: &'a str) -> Result<PathRule<'a>, WorkFault<'a>>
+    ensures rule { IfOk result (λ rule. rule_of_word word.now ≡ Some rule) }
+    ensures good { IfOk result IsGoodRule }
+    ensures fault { IfErr result (IsWordFault word.now) }
+{
+    match PathRule::of(word) {
+        Ok(rule) => Ok(rule),
+        Err(fault) => Err(WorkFault::Call(CallFault::BadPath(fault, word))),
+    }
+}
+
 /// Parses the thresholds.
 fn limits_of<'a>(alloc: Global, words: &'a LimitWords) -> Result<Limits, WorkFault<'a>>
     ensures limits { IfOk result (λ limits. limits_data limits ≡ limits_with words.now) }
@@ -147,7 +206,7 @@ fn rate_of<'a>(
 /// Checks that no option asks for an overview while standard output has the tracefile.
 fn check_overview<'a>(options: &CombineOptions, file: Option<&str>) -> Result<(), WorkFault<'a>>
     ensures room { IfOk result (λ _. HasRoom options.now (option_map (λ name. name.now) file.entry)) }
-    ensures fault { IfErr result (IsWorkFault options.now (option_map (λ name. name.now) file.entry)) }
+    ensures fault { IfErr result (IsRoomFault options.now (option_map (λ name. name.now) file.entry)) }
 {
     match (file, options.overview, options.form) {
         (Some(_), _, _) => Ok(()),
@@ -184,6 +243,42 @@ fn named_twice<'a>(alloc: Global, names: &'a [String]) -> Result<Option<&'a str>
         let is_new = seen.insert(name)?;
         if !is_new {
             return Ok(Some(name));
+        }
+    }
+    Ok(None)
+}
+
+/// Checks that no two names are of one file, as far as `folder` tells files apart.
+fn check_files<'a, F: Folder>(
+    folder: &F,
+    alloc: Global,
+    names: &'a [String],
+) -> Result<(), WorkFault<'a>>
+    ensures apart { IfOk result (λ _. AreApart (folder_data F.Folder F.File.Source folder.now) (map string_bytes names.now)) }
+    ensures fault { IfErr result (IsOneFileFault (folder_data F.Folder F.File.Source folder.now) (map string_bytes names.now)) }
+{
+    let same = one_file(folder, alloc, names)?;
+    match same {
+        Some((first, name)) => Err(WorkFault::Call(CallFault::OneFile(first, name))),
+        None => Ok(()),
+    }
+}
+
+/// The first name that is of the same file as an earlier one, after that one.
+fn one_file<'a, F: Folder>(
+    folder: &F,
+    alloc: Global,
+    names: &'a [String],
+) -> Result<Option<(&'a str, &'a str)>, Memory>
+    ensures { IfOk result (λ same. IsOneFileIfAny (folder_data F.Folder F.File.Source folder.now) (map string_bytes names.now) (option_map (λ s. (s.0.now, s.1.now)) same)) }
+{
+    let mut seen: BTreeMap<FileId, &str> = BTreeMap::new(alloc);
+    for word in names {
+        let name = word.as_str();
+        if let Some(id) = folder.look(name) {
+            if let Some(first) = seen.insert(id, name)? {
+                return Ok(Some((first, name)));
+            }
         }
     }
     Ok(None)

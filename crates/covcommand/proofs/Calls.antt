@@ -9,6 +9,8 @@ use Rattle.covcommand.specs.Asked.{AsksFor, AsksForAll, IsSizeOf, IsStrictnessOf
 use Rattle.covcommand.specs.CommandLine.{covcollect}
 use Rattle.covcommand.specs.declared.asked.Command.TheVariants.{Check, Combine, Extract, Gcov, Html, Merge, Remove, Session, Summary}
 use Rattle.covcommand.specs.declared.asked.Command.TheVariants as commands
+use Rattle.covcommand.specs.declared.asked.NameEnd.TheVariants as ends
+use Rattle.covcommand.specs.declared.asked.Progress.TheVariants as progresses
 use Rattle.covcommand.specs.declared.asked.Overview.TheVariants as overviews
 use Rattle.covcommand.specs.declared.asked.Strictness.TheVariants.{Lenient, Strict}
 use Rattle.covcommand.specs.declared.asked.TextSize.TheVariants.{Limited, Large}
@@ -575,17 +577,22 @@ version_of_one_refused = refl
 
 -- ---- `combine`
 
-pub combine_some_asked : (output : Option (String Global)) → Some (codes "out") ≡ option_map string_bytes output
-    → AsksForAll (subcommand_of covcollect (codes "covcollect" ∷ codes "combine" ∷ codes "-o" ∷ codes "out" ∷ codes "-j" ∷ codes "3" ∷ codes "--expect" ∷ codes "2" ∷ codes "--strict" ∷ codes "--list" ∷ codes "-q" ∷ codes "f" ∷ codes "g" ∷ []))
-    (record { command = Combine (record { jobs = Some 3; expected = Some 2; filter = record { includes = []; excludes = [] }; overview = overviews.List; form = Words; limits = record { lines = None; functions = None; branches = None }; names = codes "f" ∷ codes "g" ∷ [] }); strictness = Strict; size = Large; output = output })
+pub combine_some_asked : (output : Option (String Global)) → Some (codes "out") ≡ option_map string_bytes output → (list : String Global) → codes "-" ≡ string_bytes list
+    → AsksForAll (subcommand_of covcollect (codes "covcollect" ∷ codes "combine" ∷ codes "-o" ∷ codes "out" ∷ codes "-j" ∷ codes "3" ∷ codes "--expect" ∷ codes "2" ∷ codes "--path" ∷ codes "a=b" ∷ codes "--one-test=" ∷ codes "--files-from" ∷ codes "-" ∷ codes "-0" ∷ codes "--strict" ∷ codes "--list" ∷ codes "-q" ∷ codes "f" ∷ codes "g" ∷ []))
+    (record { command = Combine (record { jobs = Some 3; expected = Some 2; list = Some list; names_end = ends.Null; paths = codes "a=b" ∷ []; test = Some []; progress = progresses.Quiet; filter = record { includes = []; excludes = [] }; overview = overviews.List; form = Words; limits = record { lines = None; functions = None; branches = None }; names = codes "f" ∷ codes "g" ∷ [] }); strictness = Strict; size = Large; output = output })
 unfolding clap_on_literals
-combine_some_asked output is = (
+combine_some_asked output is list is_list = (
   (
-    rows_for (codes "covcollect" ∷ codes "combine" ∷ codes "-o" ∷ codes "out" ∷ codes "-j" ∷ codes "3" ∷ codes "--expect" ∷ codes "2" ∷ codes "--strict" ∷ codes "--list" ∷ codes "-q" ∷ codes "f" ∷ codes "g" ∷ []),
-    named (codes "combine") (subcommand_of covcollect (codes "covcollect" ∷ codes "combine" ∷ codes "-o" ∷ codes "out" ∷ codes "-j" ∷ codes "3" ∷ codes "--expect" ∷ codes "2" ∷ codes "--strict" ∷ codes "--list" ∷ codes "-q" ∷ codes "f" ∷ codes "g" ∷ [])) refl,
+    rows_for (codes "covcollect" ∷ codes "combine" ∷ codes "-o" ∷ codes "out" ∷ codes "-j" ∷ codes "3" ∷ codes "--expect" ∷ codes "2" ∷ codes "--path" ∷ codes "a=b" ∷ codes "--one-test=" ∷ codes "--files-from" ∷ codes "-" ∷ codes "-0" ∷ codes "--strict" ∷ codes "--list" ∷ codes "-q" ∷ codes "f" ∷ codes "g" ∷ []),
+    named (codes "combine") (subcommand_of covcollect (codes "covcollect" ∷ codes "combine" ∷ codes "-o" ∷ codes "out" ∷ codes "-j" ∷ codes "3" ∷ codes "--expect" ∷ codes "2" ∷ codes "--path" ∷ codes "a=b" ∷ codes "--one-test=" ∷ codes "--files-from" ∷ codes "-" ∷ codes "-0" ∷ codes "--strict" ∷ codes "--list" ∷ codes "-q" ∷ codes "f" ∷ codes "g" ∷ [])) refl,
     record {
       jobs = (codes "3", refl, refl);
       expected = (codes "2", refl, refl);
+      list = ap (λ t. Some t) is_list;
+      names_end = refl;
+      paths = refl;
+      test = refl;
+      progress = refl;
       filter = (refl, refl);
       overview = refl;
       form = refl;
@@ -599,13 +606,13 @@ combine_some_asked output is = (
 )
 
 pub combine_few_asked : AsksForAll (subcommand_of covcollect (codes "covcollect" ∷ codes "combine" ∷ codes "--json" ∷ codes "--exclude" ∷ codes "x" ∷ codes "--fail-under-lines" ∷ codes "80" ∷ []))
-    (record { command = Combine (record { jobs = None; expected = None; filter = record { includes = []; excludes = codes "x" ∷ [] }; overview = overviews.Summary; form = Json; limits = record { lines = Some (codes "80"); functions = None; branches = None }; names = [] }); strictness = Lenient; size = Large; output = None })
+    (record { command = Combine (record { jobs = None; expected = None; list = None; names_end = ends.LineFeed; paths = []; test = None; progress = progresses.Shown; filter = record { includes = []; excludes = codes "x" ∷ [] }; overview = overviews.Summary; form = Json; limits = record { lines = Some (codes "80"); functions = None; branches = None }; names = [] }); strictness = Lenient; size = Large; output = None })
 unfolding clap_on_literals
 combine_few_asked = (
   (
     rows_for (codes "covcollect" ∷ codes "combine" ∷ codes "--json" ∷ codes "--exclude" ∷ codes "x" ∷ codes "--fail-under-lines" ∷ codes "80" ∷ []),
     named (codes "combine") (subcommand_of covcollect (codes "covcollect" ∷ codes "combine" ∷ codes "--json" ∷ codes "--exclude" ∷ codes "x" ∷ codes "--fail-under-lines" ∷ codes "80" ∷ [])) refl,
-    record { jobs = refl; expected = refl; filter = (refl, refl); overview = refl; form = refl; limits = (refl, refl, refl); names = refl },
+    record { jobs = refl; expected = refl; list = refl; names_end = refl; paths = refl; test = refl; progress = refl; filter = (refl, refl); overview = refl; form = refl; limits = (refl, refl, refl); names = refl },
   ),
   refl,
   refl,

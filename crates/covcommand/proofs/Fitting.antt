@@ -14,7 +14,7 @@ use Rattle.clap.specs.Walk.{Row, Text, answers_to, has_row, nothing_held, rows_a
 use Rattle.clap.specs.Simple.{App, Shape, argument_words, built, entered, filled, help_rule, label_of, names_of, rows_at, subcommand_of, with_index, with_subcommand}
 use Rattle.clap.specs.Takes.{is_given}
 use Rattle.clap.specs.Faults.{built_fault, check_fault, entered_fault, fault_of, level_fault, repeat_fault, walk_fault}
-use Rattle.covcommand.specs.CommandLine.{check, combine, covcollect, expect, extract, files, filtering, flag, folder, gcov, html, jobs, json, limit, list, merge, output, own_jobs, patterns, program, quiet, remove, several, single, sources, summary, test, text}
+use Rattle.covcommand.specs.CommandLine.{check, combine, covcollect, expect, extract, files, files_from, filtering, flag, folder, gcov, html, jobs, json, limit, list, merge, null, one_test, output, own_jobs, paths, patterns, program, quiet, remove, several, single, sources, summary, test, text}
 use Rattle.covcommand.specs.Found.{Fits, HasCheck, HasCombining, HasFiltering, HasFlag, HasFlags, HasListing, HasMerging, HasShowing, HasSome, HasTest}
 use Rattle.covcommand.proofs.Walks.{EachKeeps, Keeps, level_keeps, no_faults, settled_after}
 use Rattle.covcommand.proofs.Rows.{EachDefaultFits, FitsValues, RowOf, RowsFit, append_fits, defaulted, defaults_fit, given_row, has_default, has_flag, has_folder, has_jobs, has_number_if_any, has_some, has_test, held_row, is_flag, most_of, numbers, set_fits}
@@ -137,6 +137,15 @@ quiet_keeps i again [] rows none fit =
 quiet_keeps i again (v ∷ vs) rows none fit =
     let range = no_faults (range_kinds 0 0 (length (v ∷ vs)))
     (or_else (repeat_fault again (codes "quiet") rows) (values_kinds false parser.Bool (v ∷ vs))) none in
+    let nothing : 0 ≡ length (v ∷ vs) = eqb-true 0 (length (v ∷ vs)) (accepted _ _ range.0) in
+    absurd (omega (arith, nothing))
+
+null_keeps : (i : ℕ) → Keeps RowsFit (with_index i (filled null))
+null_keeps i again [] rows none fit =
+    set_fits (codes "null") AsWritten (codes "true" ∷ []) rows ((λ most e. not_numbered most e), (λ e. (refl, refl))) fit
+null_keeps i again (v ∷ vs) rows none fit =
+    let range = no_faults (range_kinds 0 0 (length (v ∷ vs)))
+    (or_else (repeat_fault again (codes "null") rows) (values_kinds false parser.Bool (v ∷ vs))) none in
     let nothing : 0 ≡ length (v ∷ vs) = eqb-true 0 (length (v ∷ vs)) (accepted _ _ range.0) in
     absurd (omega (arith, nothing))
 
@@ -358,17 +367,30 @@ check_leaves words none =
 
 combine_leaves : Leaves (built_below combine) HasCombining
 combine_leaves words none =
-    let shown : EachKeeps RowsFit (with_index 2 (filled (flag (codes "list"))) ∷ with_index 2 (filled json) ∷ with_index 2 (filled quiet)
+    let shown : EachKeeps RowsFit (with_index 2 (filled paths) ∷ with_index 2 (filled one_test) ∷ with_index 2 (filled files_from) ∷ with_index 2 (filled null)
+    ∷ with_index 2 (filled (flag (codes "list"))) ∷ with_index 2 (filled json) ∷ with_index 2 (filled quiet)
     ∷ with_index 2 (filled (limit (codes "fail-under-lines"))) ∷ with_index 2 (filled (limit (codes "fail-under-functions")))
     ∷ with_index 2 (filled (limit (codes "fail-under-branches"))) ∷ with_index 2 (filled help_rule) ∷ []) = (
-      flag_keeps (codes "list") 2 refl,
+      patterns_keeps (codes "path") 2 (refl, refl),
       (
-        flag_keeps (codes "json") 2 refl,
+        limit_keeps (codes "one-test") 2 (refl, refl),
         (
-          quiet_keeps 2,
+          limit_keeps (codes "files-from") 2 (refl, refl),
           (
-            limit_keeps (codes "fail-under-lines") 2 (refl, refl),
-            (limit_keeps (codes "fail-under-functions") 2 (refl, refl), (limit_keeps (codes "fail-under-branches") 2 (refl, refl), (help_keeps 2, tt))),
+            null_keeps 2,
+            (
+              flag_keeps (codes "list") 2 refl,
+              (
+                flag_keeps (codes "json") 2 refl,
+                (
+                  quiet_keeps 2,
+                  (
+                    limit_keeps (codes "fail-under-lines") 2 (refl, refl),
+                    (limit_keeps (codes "fail-under-functions") 2 (refl, refl), (limit_keeps (codes "fail-under-branches") 2 (refl, refl), (help_keeps 2, tt))),
+                  ),
+                ),
+              ),
+            ),
           ),
         ),
       ),
@@ -387,7 +409,7 @@ combine_leaves words none =
       ),
     ) in
     let defaults : EachDefaultFits (built_below combine).rules =
-    (tt, (tt, (tt, (unset_fits (codes "strict") refl, (tt, (tt, (tt, (unset_fits (codes "list") refl, (unset_fits (codes "json") refl, (unset_fits (codes "quiet") refl, (tt, (tt, (tt, (tt, tt)))))))))))))) in
+    (tt, (tt, (tt, (unset_fits (codes "strict") refl, (tt, (tt, (tt, (tt, (tt, (tt, (unset_fits (codes "null") refl, (unset_fits (codes "list") refl, (unset_fits (codes "json") refl, (unset_fits (codes "quiet") refl, (tt, (tt, (tt, (tt, tt)))))))))))))))))) in
     of_left _ (left_after (built_below combine) words each defaults none)
   where
     of_left : (rows : List Row) → Left (built_below combine) rows → HasCombining rows
@@ -395,6 +417,8 @@ combine_leaves words none =
       jobs = has_number_if_any (codes "jobs") 64 rows refl left.fit;
       expected = has_number_if_any (codes "expect") 1048576 rows refl left.fit;
       strict = flag_left left (codes "strict") refl refl;
+      null = flag_left left (codes "null") refl refl;
+      quiet = flag_left left (codes "quiet") refl refl;
       list = flag_left left (codes "list") refl refl;
       json = flag_left left (codes "json") refl refl;
     }

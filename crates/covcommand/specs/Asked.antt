@@ -21,6 +21,10 @@ use Rattle.covcommand.specs.declared.asked.TextSize.TheVariants.{Limited, Large}
 use Rattle.covcommand.specs.declared.asked.TotalsForm.{TotalsForm}
 use Rattle.covcommand.specs.declared.asked.TotalsForm.TheVariants.{Words, Json}
 use Rattle.covcommand.specs.declared.asked.Limits.{Limits}
+use Rattle.covcommand.specs.declared.asked.Progress.{Progress}
+use Rattle.covcommand.specs.declared.asked.Progress.TheVariants as progresses
+use Rattle.covcommand.specs.declared.asked.NameEnd.{NameEnd}
+use Rattle.covcommand.specs.declared.asked.NameEnd.TheVariants as ends
 use Rattle.covcommand.specs.declared.asked.TextFormat.{TextFormat}
 use Rattle.covcommand.specs.declared.asked.TextFormat.TheVariants as format
 use Rattle.covdata.specs.declared.version.LcovVersion.{LcovVersion}
@@ -85,10 +89,29 @@ abbrev pub IsOverviewOf : List Row → Overview → Type 0
 IsOverviewOf rows overviews.Summary = one_of (codes "list") rows ≡ Some (codes "false")
 IsOverviewOf rows overviews.List = one_of (codes "list") rows ≡ Some (codes "true")
 
--- what the rows of `combine` ask for. `--quiet` changes nothing
+-- the word that clap found for `--files-from`, as it is, and `None` if the option isn't given
+abbrev pub IsListOf : List Row → Option (String Global) → Type 0
+IsListOf rows list = first_of (codes "files-from") rows ≡ option_map string_bytes list
+
+-- names in a list end at NUL bytes if clap sets the flag `--null`, and at line feeds if it doesn't
+abbrev pub IsNamesEndOf : List Row → NameEnd → Type 0
+IsNamesEndOf rows ends.LineFeed = one_of (codes "null") rows ≡ Some (codes "false")
+IsNamesEndOf rows ends.Null = one_of (codes "null") rows ≡ Some (codes "true")
+
+-- no progress is shown if clap sets the flag `--quiet`
+abbrev pub IsProgressOf : List Row → Progress → Type 0
+IsProgressOf rows progresses.Shown = one_of (codes "quiet") rows ≡ Some (codes "false")
+IsProgressOf rows progresses.Quiet = one_of (codes "quiet") rows ≡ Some (codes "true")
+
+-- what the rows of `combine` ask for
 pub record AsksToCombine (rows : List Row) (options : CombineOptions) : Type 0 where
   pub jobs : IsNumberIfAny (codes "jobs") rows options.jobs
   pub expected : IsNumberIfAny (codes "expect") rows options.expected
+  pub list : IsListOf rows options.list
+  pub names_end : IsNamesEndOf rows options.names_end
+  pub paths : options.paths ≡ values_of (codes "path") rows
+  pub test : IsTextIfAny (codes "one-test") rows options.test
+  pub progress : IsProgressOf rows options.progress
   pub filter : IsFilterOf rows options.filter
   pub overview : IsOverviewOf rows options.overview
   pub form : IsFormOf rows options.form

@@ -161,9 +161,33 @@ abbrev pub reading : App
 reading = with_rule (with_rule (with_rule (with_rule (with_rule (with_rule (with_rule (new_app (codes "combine"))
     files) own_jobs) output) strict) (patterns (codes "include"))) (patterns (codes "exclude"))) expect
 
+-- `--path OLD=NEW`. It may be given any number of times, or not at all
+abbrev pub paths : Rule
+paths = patterns (codes "path")
+
+-- `--one-test=NAME`. It may be given once, or not at all
+abbrev pub one_test : Rule
+one_test = limit (codes "one-test")
+
+-- and the names under which counts are added up
+abbrev pub naming : App
+naming = with_rule (with_rule reading paths) one_test
+
+-- `--files-from LIST`. It may be given once, or not at all
+abbrev pub files_from : Rule
+files_from = limit (codes "files-from")
+
+-- `--null` or `-0`. 48 is the code of `0`
+abbrev pub null : Rule
+null = record (flag (codes "null")) { short = Some 48 }
+
+-- and a list of names
+abbrev pub listed : App
+listed = with_rule (with_rule naming files_from) null
+
 -- and what is shown
 abbrev pub showing : App
-showing = with_rule (with_rule (with_rule reading (flag (codes "list"))) json) quiet
+showing = with_rule (with_rule (with_rule listed (flag (codes "list"))) json) quiet
 
 -- and limits
 abbrev pub combine : App

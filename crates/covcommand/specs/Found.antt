@@ -55,6 +55,8 @@ pub record HasCombining (rows : List Row) : Type 0 where
   pub jobs : HasNumberIfAny (codes "jobs") 64 rows
   pub expected : HasNumberIfAny (codes "expect") 1048576 rows
   pub strict : HasFlag (codes "strict") rows
+  pub null : HasFlag (codes "null") rows
+  pub quiet : HasFlag (codes "quiet") rows
   pub list : HasFlag (codes "list") rows
   pub json : HasFlag (codes "json") rows
 

@@ -1,3 +1,4 @@
+pub mod Spelling
 pub mod CommandLine
 pub mod Asked
 pub mod Fault

@@ -114,6 +114,16 @@ pub struct CombineOptions {
     pub jobs: Option<u32>,
     /// How many files have to be read, from 1 to 1,048,576, or `None` without the option.
     pub expected: Option<u32>,
+    /// `--files-from`: the path of a list of further files, `-` for standard input, or `None` without the option.
+    pub list: Option<String>,
+    /// Where a name in the list ends.
+    pub names_end: NameEnd,
+    /// `--path`: which paths source files get, each as an unparsed argument.
+    pub paths: Names,
+    /// `--one-test`: the test that all counts get, or `None` if each keeps its own.
+    pub test: Option<Bytes>,
+    /// Whether a terminal shows how much is read.
+    pub progress: Progress,
     /// Which source files are printed and counted.
     pub filter: SourceFilter,
     /// What is shown of the merged tracefile if it goes into a file.
@@ -124,6 +134,24 @@ pub struct CombineOptions {
     pub limits: Limits,
     /// The files' paths, which may be none.
     pub names: Names,
+}
+
+/// Whether a terminal shows how much of the files is read.
+#[derive(Clone, Copy)]
+pub enum Progress {
+    /// Without `--quiet`.
+    Shown,
+    /// With `--quiet`.
+    Quiet,
+}
+
+/// Where a name in a list of names ends.
+#[derive(Clone, Copy)]
+pub enum NameEnd {
+    /// Without `--null`: at a line feed.
+    LineFeed,
+    /// With `--null`: at a NUL byte.
+    Null,
 }
 
 /// What is shown of a merged tracefile.

@@ -20,13 +20,29 @@ pub(crate) fn combine<'a>(alloc: Global) -> Result<Command<'a>, AllocError>
     taking(taking(taking(combine, lines), functions), branches)
 }
 
-/// Returns `combine` without thresholds: that of `reading` with three flags for what is shown.
+/// Returns `combine` without thresholds: that of `listed` with three flags for what is shown.
 fn showing<'a>(alloc: Global) -> Result<Command<'a>, AllocError>
     ensures { IfOk result (HasNoGlobals line.showing) }
 {
-    let showing = taking(reading(alloc), flag(alloc, "list", help::SHOW_LIST));
+    let showing = taking(listed(alloc), flag(alloc, "list", help::SHOW_LIST));
     let showing = taking(showing, json(alloc));
     taking(showing, quiet(alloc))
+}
+
+/// Returns that of `naming` with the options for a list of names.
+fn listed<'a>(alloc: Global) -> Result<Command<'a>, AllocError>
+    ensures { IfOk result (HasNoGlobals line.listed) }
+{
+    let listed = taking(naming(alloc), files_from(alloc));
+    taking(listed, null(alloc))
+}
+
+/// Returns that of `reading` with the options for the names under which counts are added up.
+fn naming<'a>(alloc: Global) -> Result<Command<'a>, AllocError>
+    ensures { IfOk result (HasNoGlobals line.naming) }
+{
+    let naming = taking(reading(alloc), paths(alloc));
+    taking(naming, one_test(alloc))
 }
 
 /// Returns `combine` with the files, and the options for how they are read and which of their counts are printed.
@@ -75,6 +91,50 @@ fn expect<'a>(alloc: Global) -> Arg<'a>
         .action(ArgAction::Set)
         .value_parser(value_parser!(u32).range(1..=1_048_576))
         .help(help::EXPECT)
+}
+
+/// `--path OLD=NEW`, which path a source file gets. It may be repeated.
+fn paths<'a>(alloc: Global) -> Arg<'a>
+    ensures { IsRule line.paths result }
+{
+    Arg::new(alloc, "path")
+        .long("path")
+        .value_name("OLD=NEW")
+        .action(ArgAction::Append)
+        .help(help::PATH)
+}
+
+/// `--one-test=NAME`, the test that all counts get. It is allowed at most once. `spelled_out` gives it a value where it has none.
+fn one_test<'a>(alloc: Global) -> Arg<'a>
+    ensures { IsRule line.one_test result }
+{
+    Arg::new(alloc, "one-test")
+        .long("one-test")
+        .value_name("NAME")
+        .action(ArgAction::Set)
+        .help(help::ONE_TEST)
+}
+
+/// `--files-from LIST`, the file that lists names.
+fn files_from<'a>(alloc: Global) -> Arg<'a>
+    ensures { IsRule line.files_from result }
+{
+    Arg::new(alloc, "files-from")
+        .long("files-from")
+        .value_name("LIST")
+        .action(ArgAction::Set)
+        .help(help::FILES_FROM)
+}
+
+/// The flag `--null` or `-0`: names in a list end at NUL bytes.
+fn null<'a>(alloc: Global) -> Arg<'a>
+    ensures { IsRule line.null result }
+{
+    Arg::new(alloc, "null")
+        .short('0')
+        .long("null")
+        .action(ArgAction::SetTrue)
+        .help(help::NULL)
 }
 
 /// The flag `--quiet` or `-q`: no progress is shown.

@@ -160,6 +160,8 @@ and to end with status 5 unless 500 files were read
   covcollect combine --expect 500 -o all.info jobs/*.info
 and to leave out source files (extract --help tells of patterns)
   covcollect combine --exclude '/usr/*' -o all.info jobs/*.info
+and to count what is under /build/a as what is under /src
+  covcollect combine --path /build/a=/src -o all.info jobs/*.info
 and to end with status 6 where too little is hit
   covcollect combine --fail-under-lines 80 -o all.info jobs/*.info
 Without -o the tracefile is printed.";
@@ -242,6 +244,24 @@ pub(crate) const EXCLUDE: &str = "No source files that match; may be repeated";
 /// The help of `--json`.
 pub(crate) const JSON: &str = "Print JSON";
 
+/// The help of `--path`.
+pub(crate) const PATH: &str = "\
+Count what is under OLD as under NEW; may be
+repeated, the first that fits counts";
+
+/// The help of `--one-test`.
+pub(crate) const ONE_TEST: &str = "\
+Count all as of one test, by itself as of the
+empty name: --one-test, or --one-test=NAME";
+
+/// The help of `--files-from`.
+pub(crate) const FILES_FROM: &str = "\
+Read the files that LIST names too, one on
+each line; - is standard input";
+
+/// The help of `--null`.
+pub(crate) const NULL: &str = "Names in LIST end at NUL bytes";
+
 /// The help of `--expect`.
 pub(crate) const EXPECT: &str = "Status 5 unless N files are read";
 
@@ -249,7 +269,7 @@ pub(crate) const EXPECT: &str = "Status 5 unless N files are read";
 pub(crate) const SHOW_LIST: &str = "List each source file, with -o";
 
 /// The help of `--quiet`.
-pub(crate) const QUIET: &str = "Show no progress (today none is shown)";
+pub(crate) const QUIET: &str = "Show no progress on a terminal";
 
 /// The help of `--fail-under-lines`.
 pub(crate) const FAIL_UNDER_LINES: &str = "Status 6 if less than N% of lines are hit";

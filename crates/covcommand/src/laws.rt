@@ -10,6 +10,8 @@ ghost use Rattle.covcommand.specs.Asked.{AsksFor, AsksForAll, IsSizeOf, IsStrict
 ghost use Rattle.covcommand.specs.CommandLine.{covcollect};
 ghost use Rattle.covcommand.specs.declared.asked.Command.TheVariants.{Check, Combine, Extract, Gcov, Html, Merge, Remove, Session, Summary};
 ghost use Rattle.covcommand.specs.declared.asked.Command.TheVariants as commands;
+ghost use Rattle.covcommand.specs.declared.asked.NameEnd.TheVariants as ends;
+ghost use Rattle.covcommand.specs.declared.asked.Progress.TheVariants as progresses;
 ghost use Rattle.covcommand.specs.declared.asked.Overview.TheVariants as overviews;
 ghost use Rattle.covcommand.specs.declared.asked.Strictness.TheVariants.{Lenient, Strict};
 ghost use Rattle.covcommand.specs.declared.asked.TextSize.TheVariants.{Limited, Large};
@@ -193,14 +195,14 @@ pub fn large_by_their_words()
         (record { command = Merge One 1 (record { includes = []; excludes = [] }) (codes "--large" ∷ []); strictness = Lenient; size = Limited; output = None }) }
 {}
 
-/// What `combine` asks for: numbers that are given, patterns, the overview, thresholds and files, of which there may be none. `--quiet`
-/// changes nothing. Its size limit is always `Large`.
+/// What `combine` asks for: numbers that are given, a list of names, paths, a test, progress, patterns, the overview, thresholds and
+/// files, of which there may be none. Its size limit is always `Large`.
 pub fn combines_by_their_words()
-    ensures some { (output : Option (String Global)) → Some (codes "out") ≡ option_map string_bytes output
-        → AsksForAll (subcommand_of covcollect (codes "covcollect" ∷ codes "combine" ∷ codes "-o" ∷ codes "out" ∷ codes "-j" ∷ codes "3" ∷ codes "--expect" ∷ codes "2" ∷ codes "--strict" ∷ codes "--list" ∷ codes "-q" ∷ codes "f" ∷ codes "g" ∷ []))
-        (record { command = Combine (record { jobs = Some 3; expected = Some 2; filter = record { includes = []; excludes = [] }; overview = overviews.List; form = Words; limits = record { lines = None; functions = None; branches = None }; names = codes "f" ∷ codes "g" ∷ [] }); strictness = Strict; size = Large; output = output }) }
+    ensures some { (output : Option (String Global)) → Some (codes "out") ≡ option_map string_bytes output → (list : String Global) → codes "-" ≡ string_bytes list
+        → AsksForAll (subcommand_of covcollect (codes "covcollect" ∷ codes "combine" ∷ codes "-o" ∷ codes "out" ∷ codes "-j" ∷ codes "3" ∷ codes "--expect" ∷ codes "2" ∷ codes "--path" ∷ codes "a=b" ∷ codes "--one-test=" ∷ codes "--files-from" ∷ codes "-" ∷ codes "-0" ∷ codes "--strict" ∷ codes "--list" ∷ codes "-q" ∷ codes "f" ∷ codes "g" ∷ []))
+        (record { command = Combine (record { jobs = Some 3; expected = Some 2; list = Some list; names_end = ends.Null; paths = codes "a=b" ∷ []; test = Some []; progress = progresses.Quiet; filter = record { includes = []; excludes = [] }; overview = overviews.List; form = Words; limits = record { lines = None; functions = None; branches = None }; names = codes "f" ∷ codes "g" ∷ [] }); strictness = Strict; size = Large; output = output }) }
     ensures few { AsksForAll (subcommand_of covcollect (codes "covcollect" ∷ codes "combine" ∷ codes "--json" ∷ codes "--exclude" ∷ codes "x" ∷ codes "--fail-under-lines" ∷ codes "80" ∷ []))
-        (record { command = Combine (record { jobs = None; expected = None; filter = record { includes = []; excludes = codes "x" ∷ [] }; overview = overviews.Summary; form = Json; limits = record { lines = Some (codes "80"); functions = None; branches = None }; names = [] }); strictness = Lenient; size = Large; output = None }) }
+        (record { command = Combine (record { jobs = None; expected = None; list = None; names_end = ends.LineFeed; paths = []; test = None; progress = progresses.Shown; filter = record { includes = []; excludes = codes "x" ∷ [] }; overview = overviews.Summary; form = Json; limits = record { lines = Some (codes "80"); functions = None; branches = None }; names = [] }); strictness = Lenient; size = Large; output = None }) }
     ensures none { takes covcollect (codes "covcollect" ∷ codes "combine" ∷ []) ≡ true }
     ensures no_jobs { fault_of covcollect (codes "covcollect" ∷ codes "combine" ∷ codes "-j" ∷ codes "0" ∷ codes "f" ∷ []) ≡ kind.ValueValidation ∷ [] }
     ensures no_files { fault_of covcollect (codes "covcollect" ∷ codes "combine" ∷ codes "--expect" ∷ codes "0" ∷ codes "f" ∷ []) ≡ kind.ValueValidation ∷ [] }

@@ -1,7 +1,7 @@
 //! The command line of the coverage collector: its parser and its help texts.
 //!
-//! `word_at` returns an argument as a `String` if the argument is UTF-8. `described` describes the command line to clap. `command`
-//! parses the arguments. `help` has the texts for the user.
+//! `word_at` returns an argument as a `String` if the argument is UTF-8. `spelled_out` changes words that clap doesn't take.
+//! `described` describes the command line to clap. `command` parses the arguments. `help` has the texts for the user.
 //!
 //! An example, proved and run in `covuses`: a function that returns the number of jobs and the files of a `merge`, and `None` for
 //! any other variant of [`Command`].
@@ -26,11 +26,12 @@ mod html;
 pub mod laws;
 mod names;
 mod parsing;
+mod spelling;
 mod word;
 
 pub use asked::{
-    Asked, CombineOptions, Command, Limits, Overview, PageOptions, SourceFilter, Strictness,
-    TextFormat, TextSize, TotalsForm,
+    Asked, CombineOptions, Command, Limits, NameEnd, Overview, PageOptions, Progress, SourceFilter,
+    Strictness, TextFormat, TextSize, TotalsForm,
 };
 pub use covdata::LcovVersion;
 pub use fault::CommandFault;
@@ -42,4 +43,5 @@ pub use laws::{
 };
 pub use names::Names;
 pub use parsing::command;
+pub use spelling::spelled_out;
 pub use word::word_at;

@@ -4,14 +4,14 @@ ghost use Rattle.std.specs.Prelude.{◌≡◌, ◌≢◌, ◌≤◌, ◌++◌, [
 ghost use Rattle.std.specs.String.{string_bytes};
 ghost use Rattle.clap.specs.Words.{rows_of, found_of, subcommand_of, takes, fault_of, first_of};
 ghost use Rattle.covcommand.specs.CommandLine.{covcollect};
-ghost use Rattle.covcommand.specs.Asked.{AreLimitsOf, ArePagesOf, AsksFor, AsksToCombine, GoesTo, HasSize, HasStrictness, IsFilterOf, IsFormOf, IsFormatOf, IsInBounds, IsNumberIfAny, IsNumberOf, IsOutputOf, IsOverviewOf, IsSizeOf, IsStrictnessOf, IsTextIfAny, IsUpToIfAny, IsVersionOf, rows_met, tracefile_and_patterns, values_of};
+ghost use Rattle.covcommand.specs.Asked.{AreLimitsOf, ArePagesOf, AsksFor, AsksToCombine, GoesTo, HasSize, HasStrictness, IsFilterOf, IsFormOf, IsFormatOf, IsInBounds, IsListOf, IsNamesEndOf, IsNumberIfAny, IsNumberOf, IsOutputOf, IsOverviewOf, IsProgressOf, IsSizeOf, IsStrictnessOf, IsTextIfAny, IsUpToIfAny, IsVersionOf, rows_met, tracefile_and_patterns, values_of};
 ghost use Rattle.covcommand.specs.Found.{Fits, HasCombining, HasFilter, HasFlag, HasFolder, HasJobs, HasNumberIfAny, HasSome, HasTest, TellsFlags};
 ghost use Rattle.covcommand.specs.Fault.{IsFaultAmong};
 ghost use Rattle.covcommand.specs.declared.fault.CommandFault.TheVariants as faults;
 
 use crate::asked::{
-    Asked, CombineOptions, Command, Limits, Overview, PageOptions, SourceFilter, Strictness,
-    TextFormat, TextSize, TotalsForm,
+    Asked, CombineOptions, Command, Limits, NameEnd, Overview, PageOptions, Progress, SourceFilter,
+    Strictness, TextFormat, TextSize, TotalsForm,
 };
 use crate::described::described;
 use crate::fault::CommandFault;
@@ -213,6 +213,11 @@ fn combine_options_of(alloc: Global, found: &ArgMatches<'_>) -> Result<CombineOp
     Ok(CombineOptions {
         jobs: jobs_if_any(found),
         expected: expected_of(found),
+        list: list_of(alloc, found)?,
+        names_end: names_end_of(found),
+        paths: patterns_of(alloc, found, "path")?,
+        test: text_if_any(alloc, found, "one-test")?,
+        progress: progress_of(found),
         filter: source_filter_of(alloc, found)?,
         overview: overview_of(found),
         form: form_of(found),
@@ -237,6 +242,40 @@ fn expected_of(found: &ArgMatches<'_>) -> Option<u32>
     ensures bounds { IsUpToIfAny 1048576 result }
 {
     found.get_one::<u32>("expect")
+}
+
+/// The argument of `--files-from`, or `None` without the option.
+fn list_of(alloc: Global, found: &ArgMatches<'_>) -> Result<Option<String>, Memory>
+    ensures { IfOk result (IsListOf (rows_of (found_of found.now))) }
+{
+    match found.get_str("files-from") {
+        Some(path) => Ok(Some(String::from_str(alloc, path)?)),
+        None => Ok(None),
+    }
+}
+
+/// Where names in a list end: at NUL bytes if clap found the flag `--null`, else at line feeds.
+fn names_end_of(found: &ArgMatches<'_>) -> NameEnd
+    requires { HasFlag (codes "null") (rows_of (found_of found.now)) }
+    ensures { IsNamesEndOf (rows_of (found_of found.now)) result }
+{
+    if found.get_flag("null") {
+        NameEnd::Null
+    } else {
+        NameEnd::LineFeed
+    }
+}
+
+/// Whether progress is shown: not if clap found the flag `--quiet`.
+fn progress_of(found: &ArgMatches<'_>) -> Progress
+    requires { HasFlag (codes "quiet") (rows_of (found_of found.now)) }
+    ensures { IsProgressOf (rows_of (found_of found.now)) result }
+{
+    if found.get_flag("quiet") {
+        Progress::Quiet
+    } else {
+        Progress::Shown
+    }
 }
 
 /// What is shown: each source file if clap found the flag `--list`, else the summary.

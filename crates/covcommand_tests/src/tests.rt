@@ -4,8 +4,8 @@
 //! proof. Functions append to a text and panic if memory runs out: each `?` would have to drop the text.
 
 use covcommand::{
-    Asked, CombineOptions, Command, CommandFault, LcovVersion, Limits, Names, Overview,
-    PageOptions, SourceFilter, Strictness, TextFormat, TextSize, TotalsForm, command,
+    Asked, CombineOptions, Command, CommandFault, LcovVersion, Limits, NameEnd, Names, Overview,
+    PageOptions, Progress, SourceFilter, Strictness, TextFormat, TextSize, TotalsForm, command,
 };
 use std::alloc::Global;
 use std::fmt::Write;
@@ -176,13 +176,22 @@ fn put_command(rt: &impl Abort, text: &mut String, command: &Command) {
     }
 }
 
-/// Appends the command `combine`, its numbers, the source filter, the overview, the thresholds and the names.
+/// Appends the command `combine`, its numbers, the list, the paths, the test, the source filter, the overview, the thresholds and
+/// the names.
 fn put_combine(rt: &impl Abort, text: &mut String, options: &CombineOptions) {
     put(rt, text, "combine");
     put_number(rt, text, " jobs(", options.jobs);
     put_number(rt, text, " expected(", options.expected);
+    if let Some(list) = &options.list {
+        put_marked(rt, text, list_mark(&options.names_end), list.as_str());
+    }
+    put_each(rt, text, " path[", &options.paths);
+    if let Some(test) = &options.test {
+        put_limit(rt, text, " test(", test.get());
+    }
     put_each(rt, text, " +[", &options.filter.includes);
     put_each(rt, text, " -[", &options.filter.excludes);
+    put(rt, text, progress_word(&options.progress));
     put(rt, text, overview_word(&options.overview));
     put_summary(rt, text, &options.form, &options.limits, &options.names);
 }
@@ -193,6 +202,22 @@ fn put_number(rt: &impl Abort, text: &mut String, mark: &str, number: Option<u32
         if write!(text, "{mark}{number})").is_err() {
             panic!(rt; "out of memory");
         }
+    }
+}
+
+/// The mark of a list of names.
+fn list_mark(names_end: &NameEnd) -> &'static str {
+    match names_end {
+        NameEnd::LineFeed => " list[",
+        NameEnd::Null => " list0[",
+    }
+}
+
+/// The word for a call that shows no progress.
+fn progress_word(progress: &Progress) -> &'static str {
+    match progress {
+        Progress::Shown => "",
+        Progress::Quiet => " quiet",
     }
 }
 

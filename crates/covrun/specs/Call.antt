@@ -21,6 +21,7 @@ use Rattle.covrun.specs.declared.text_fault.TextFault.{TextFault}
 use Rattle.covcommand.specs.Asked.{AsksFor, GoesTo, HasSize, HasStrictness, IsInBounds, rows_met}
 use Rattle.covcommand.specs.CommandLine.{covcollect}
 use Rattle.covcommand.specs.Fault.{IsFaultAmong}
+use Rattle.covcommand.specs.Spelling.{spelled_out}
 use Rattle.covcommand.specs.declared.asked.Asked.{Asked}
 use Rattle.covcommand.specs.declared.asked.Command.{Command}
 use Rattle.covcommand.specs.declared.asked.Strictness.{Strictness}
@@ -162,7 +163,8 @@ abbrev pub IsEndingReported : (file : Option (List ℕ)) → EndingData → (sta
 IsEndingReported None ending status old new = ChangesSinksAlone old new × IsEndingPrinted ending status old.sinks new.sinks
 IsEndingReported (Some name) ending status old new = (new.input ≡ old.input) × IsEndingWritten name ending status old new
 
--- what covcommand makes of the words: this command, its strictness, whether files are read in pieces, and the file for its text, or this fault
+-- what covcommand makes of words as clap takes them: this command, its strictness, whether files are read in pieces, and the file
+-- for its text, or this fault
 pub record AreParsed (words : List (List ℕ)) (parsed : Result Asked CommandFault) : Type 0 where
   pub asks : IfOk parsed (λ asked. AsksFor (subcommand_of covcollect words) asked.command)
   pub strictness : IfOk parsed (λ asked. HasStrictness (rows_met (subcommand_of covcollect words)) asked.command asked.strictness)
@@ -229,8 +231,8 @@ IsShown folder work pages status old new =
     × IsAnswer work texts (Ok c) × (ending_of None work (Ok c) ≡ Prints text) × (new.input ≡ old.input) × (new.files.begun ≡ old.files.begun)
     × PagesEnd (pages_work folder work pages) (content_at (table_of (ops_in c.entries))) status old new)
 
--- what a call does for its task. Only a session reads the input, and only collecting and combining write a file. Checking files reports each
--- file. Showing files writes a folder
+-- what a call does for its task. Only a session reads the input, and combining a list in it, and only collecting and combining
+-- write a file. Checking files reports each file. Showing files writes a folder
 abbrev pub IsTaskDone : FolderData → TaskData → (file : Option (List ℕ)) → (status : ℕ) → WorldData → WorldData → Type 0
 IsTaskDone folder Serves file status old new = IsServed status old new
 IsTaskDone folder (Collects work) file status old new = IsWorkDone folder work file status old new
@@ -254,4 +256,5 @@ IsCallDone folder (Err fault) status old new = IsEndingReported None (of_line fa
 
 -- one call of the program: the folder whose files it reads, its words, its exit status, and what it changes, before and after
 abbrev pub IsCall : FolderData → (words : List (List ℕ)) → (status : ℕ) → WorldData → WorldData → Type 0
-IsCall folder words status old new = (parsed : Result Asked CommandFault) × AreParsed words parsed × IsCallDone folder parsed status old new
+IsCall folder words status old new =
+    (parsed : Result Asked CommandFault) × AreParsed (spelled_out words) parsed × IsCallDone folder parsed status old new

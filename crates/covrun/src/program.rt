@@ -2,7 +2,8 @@
 
 ghost use Rattle.std.specs.Prelude.{◌≡◌, map, option_map};
 ghost use Rattle.std.specs.String.{string_bytes};
-ghost use Rattle.covrun.specs.Call.{of_line, IsCall, IsCommandDone, IsEndingPrinted, IsServed};
+ghost use Rattle.covcommand.specs.Spelling.{spelled_out as spelled_out_words};
+ghost use Rattle.covrun.specs.Call.{of_line, AreParsed, IsCall, IsCommandDone, IsEndingPrinted, IsServed};
 ghost use Rattle.covworld.specs.Folder.{folder_data};
 ghost use Rattle.covworld.specs.OutputFiles.{file_of, is_output as is_output_name};
 ghost use Rattle.covworld.specs.Streams.{CanWrite};
@@ -15,7 +16,7 @@ use crate::output::{report_failure, report_line};
 use crate::pages::do_pages;
 use crate::work::{Task, task_for};
 use covcombine::combine;
-use covcommand::{Asked, CommandFault, command};
+use covcommand::{Asked, CommandFault, command, spelled_out};
 use covhtml::PointsTable;
 use covreport::Table;
 use covstream::{Sink, Source};
@@ -56,7 +57,8 @@ use std::thread::Threads;
 ///
 /// The run collects or checks the content of the files on the command line, if `folder` knows its files' bytes.
 ///
-/// A run without a subcommand is a session over the input and the output. Only a session reads the input. The output is flushed,
+/// A run without a subcommand is a session over the input and the output. Only a session reads the input, and
+/// `combine` for a list of names in it. The output is flushed,
 /// the error stream isn't. `run` returns only after all jobs have ended.
 ///
 /// The caller names the store `T` that keeps the counts. The contract is the same for every store.
@@ -73,10 +75,18 @@ pub fn run<
     ensures { IsCall (folder_data F.Folder F.File.Source folder.now) (map string_bytes words.now) result world.old world.new }
 {
     let alloc = rt.alloc();
-    match command(alloc, words) {
+    match parsed(alloc, words) {
         Ok(asked) => run_command::<R, F, P, I, O, E, T>(rt, folder, alloc, asked, world),
         Err(fault) => report_line(fault, &mut world.sinks),
     }
+}
+
+/// Parses the command line, after its words are spelled out as `command` takes them.
+fn parsed(alloc: Global, words: &[String]) -> Result<Asked, CommandFault>
+    ensures { AreParsed (spelled_out_words (map string_bytes words.now)) result }
+{
+    let words = spelled_out(alloc, words)?;
+    command(alloc, words.as_slice())
 }
 
 /// Executes the command that `asked` has, and returns the exit status.

@@ -4,13 +4,15 @@ use Rattle.std.specs.List.{AllByRecursion, zip}
 use Rattle.std.specs.Prelude.{◌≡◌, ◌⊎◌, ◌<◌, ℕ, suc, List, take, Option, None, Some}
 use Rattle.covread.specs.Outcome.{max_bytes}
 use Rattle.covstream.specs.declared.stream.Source.{Ghosts as SourceOf}
+use Rattle.covworld.specs.declared.folder.FileId.{FileId}
 use Rattle.covworld.specs.declared.folder.Folder.{Ghosts as FolderOf}
 
 -- the folder that a call reads files from. `holds`: the bytes of the file with this name, if the folder knows them. `MayFail`:
--- this file may fail to be read
+-- this file may fail to be read. `MayBe`: this name may be of the file with this id, or of one whose id isn't known
 pub record FolderData : Type 1 where
   pub holds : List ℕ → Option (List ℕ)
   pub MayFail : List ℕ → Type 0
+  pub MayBe : List ℕ → Option FileId → Type 0
 
 -- an open file couldn't be read: reads gave the first of its bytes, and a read failed. `held`: the file's bytes, if they are
 -- known. `MayOpen`: the folder may give this open file
@@ -29,6 +31,7 @@ abbrev pub folder_data : {F File : Type 0} → FolderOf F File → SourceOf File
 folder_data of file folder = record {
   holds = of.holds folder;
   MayFail = λ name. of.may_refuse folder name ⊎ HasFailed (of.holds folder name) (of.may_open folder name) file.left file.failed_reads;
+  MayBe = of.may_be folder;
 }
 
 -- if the bytes are known, the text is all of them, or the first `most` of them

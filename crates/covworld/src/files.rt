@@ -16,7 +16,7 @@ const MAX_KEPT: usize = MAX_BYTES + 1;
 
 /// Reads the rest of `source`, up to one byte more than the size limit. Reserves `awaited` bytes first, so the buffer grows only if
 /// more bytes come. Fails with `Unreadable` if a read failed, and otherwise with `Memory`.
-pub(crate) fn read_text<S: Source>(
+pub fn read_text<S: Source>(
     alloc: Global,
     awaited: usize,
     source: &mut S,

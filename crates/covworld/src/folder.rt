@@ -7,6 +7,7 @@ use crate::named_file::open_named;
 use covreport::Noted;
 use covstream::{Failed, FromRead, Source};
 use std::fs::{OpenFile, OpenOptions};
+use std::os::unix::fs::MetadataExt;
 use std::rt::Files;
 
 /// An open file, and the length that it claims to have.
@@ -20,11 +21,22 @@ pub struct Opened<S> {
     pub name: Noted,
 }
 
+/// Which file a name is of, as far as the system tells files apart: names with equal ids are of one file.
+#[derive(Clone, Copy, Debug, PartialEq, Eq, PartialOrd, Ord)]
+pub struct FileId {
+    /// The number of the device that the file is on.
+    pub device: u64,
+    /// The number of the file on this device.
+    pub file: u64,
+}
+
 /// Opens files by their names.
 ///
 /// `holds` gives the same value for a file each time while the folder is borrowed. So an implementation must give `None` for a file
 /// that may change between two opens or during a read. A file's source counts a failed read, which consumes no bytes.
 pub trait Folder {
+    ghost use Rattle.covworld.specs.declared.folder.FileId.{FileId};
+
     // The bytes of the file with this name, if the folder knows them.
     ghost holds: { Self → List ℕ → Option (List ℕ) };
 
@@ -33,6 +45,9 @@ pub trait Folder {
 
     // Whether opening the file with this name may give this open file.
     ghost may_open: { Self → List ℕ → Self.File → Type 0 };
+
+    // Whether looking at the file with this name may give this id, or none.
+    ghost may_be: { Self → List ℕ → Option FileId → Type 0 };
 
     /// An open file, as a source of its bytes.
     type File: Source + Drop;
@@ -45,6 +60,16 @@ pub trait Folder {
         ensures named { IfOk result (λ opened. opened.name.bytes ≡ name.now) }
         ensures opened { IfOk result (λ opened. may_open self.now name.now opened.source) }
         ensures refused { IfErr result (λ _. may_refuse self.now name.now) };
+
+    /// Which file `name` is of, or `None` if that isn't known. Doesn't open the file.
+    fn look(&self, name: &str) -> Option<FileId>
+        ensures { may_be self.now name.now result };
+
+    /// Says that the files called `names` are read from now on. A folder may show how far this is, which no contract speaks of.
+    fn begin_reading(&self, _names: &[String]) {}
+
+    /// Says that all these files are read.
+    fn end_reading(&self) {}
 }
 
 /// The file system of std as a folder.
@@ -71,6 +96,8 @@ impl<'a, R: Files> Folder for FromFiles<'a, R> {
 
     ghost may_open = { λ _ _ _. Unit {0} };
 
+    ghost may_be = { λ _ _ _. Unit {0} };
+
     type File = FromRead<R::File>;
 
     fn open(&self, name: &str) -> Result<Opened<FromRead<R::File>>, Failed> {
@@ -81,6 +108,17 @@ impl<'a, R: Files> Folder for FromFiles<'a, R> {
         };
         let awaited = size_of(file.get());
         Ok(file.into_opened(awaited))
+    }
+
+    /// Follows links. The id is that of the file behind them; no file has the number 0.
+    fn look(&self, name: &str) -> Option<FileId> {
+        match self.files.metadata(name) {
+            Ok(found) if found.ino() != 0 => Some(FileId {
+                device: found.dev(),
+                file: found.ino(),
+            }),
+            _ => None,
+        }
     }
 }
 

@@ -50,8 +50,8 @@ mod world;
 mod written_file;
 
 pub use covreport::Noted;
-pub use files::file_text;
-pub use folder::{Folder, FromFiles, Opened};
+pub use files::{file_text, read_text};
+pub use folder::{FileId, Folder, FromFiles, Opened};
 pub use folder_writer::{FolderFault, FolderWriter};
 pub use output_folder::{IntoFiles, OutputFault, OutputFolder};
 pub use printed_text::PrintedText;

@@ -10,7 +10,7 @@ use std::marker::Model;
 pub struct World<P: OutputFolder, I: Source, O: Sink, E: Sink> {
     /// Takes the output file, if the command line names one.
     pub files: P,
-    /// Gives the commands of a session, and is read by nothing else.
+    /// Gives the commands of a session, or a list of names. Nothing else reads it.
     pub input: I,
     /// The output and the error stream.
     pub sinks: Sinks<O, E>,

@@ -43,8 +43,14 @@ covcollect combine => combine large
 covcollect combine -o all.info b.info a.info => combine [b.info] [a.info] large >[all.info]
 covcollect combine -j 4 --expect 2 a.info b.info => combine jobs(4) expected(2) [a.info] [b.info] large
 covcollect combine --jobs=64 --expect=1048576 a.info => combine jobs(64) expected(1048576) [a.info] large
-covcollect combine --strict -q a.info => combine [a.info] strict large
-covcollect combine --quiet a.info --json --list => combine list json [a.info] large
+covcollect combine --path /a=/b --path=/c= a.info => combine path[/a=/b] path[/c=] [a.info] large
+covcollect combine --one-test=all a.info => combine test(all) [a.info] large
+covcollect combine --one-test= a.info => combine test() [a.info] large
+covcollect combine --files-from - a.info => combine list[-] [a.info] large
+covcollect combine -0 --files-from=names => combine list0[names] large
+covcollect combine --null --files-from names a.info => combine list0[names] [a.info] large
+covcollect combine --strict -q a.info => combine quiet [a.info] strict large
+covcollect combine --quiet a.info --json --list => combine quiet list json [a.info] large
 covcollect combine --include '*.c' --exclude '/usr/*' --fail-under-lines 80 a.info => combine +[*.c] -[/usr/*] lines(80) [a.info] large
 covcollect combine -- -q => combine [-q] large
 covcollect combine -j 0 a.info => 2 2 error: invalid value '0' for '--jobs <N>': 0 is not in 1..=64

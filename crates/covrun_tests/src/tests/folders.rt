@@ -7,7 +7,7 @@ use super::outputs::NoFiles;
 use super::{Told, check_text, kept_sinks, run, words_of};
 use covrun::{Folder, World};
 use covstream::{Failed, FromRead, Source};
-use covworld::{Noted, Opened};
+use covworld::{FileId, Noted, Opened};
 use std::process::Abort;
 use std::sync::Wait;
 use std::test::*;
@@ -58,6 +58,8 @@ impl<'a> Folder for OneFile<'a> {
 
     ghost may_open = { λ _ _ _. Unit {0} };
 
+    ghost may_be = { λ _ _ id. id ≡ None };
+
     type File = FromRead<&'a [u8]>;
 
     fn open(&self, name: &str) -> Result<Opened<FromRead<&'a [u8]>>, Failed> {
@@ -69,6 +71,10 @@ impl<'a> Folder for OneFile<'a> {
             awaited: 0,
             name: Noted::none().and(name.as_bytes()),
         })
+    }
+
+    fn look(&self, _name: &str) -> Option<FileId> {
+        None
     }
 }
 
@@ -138,6 +144,8 @@ impl Folder for TornFiles {
 
     ghost may_open = { λ _ _ file. file.failed ≡ 0 };
 
+    ghost may_be = { λ _ _ id. id ≡ None };
+
     type File = Torn;
 
     fn open(&self, name: &str) -> Result<Opened<Torn>, Failed> {
@@ -150,6 +158,10 @@ impl Folder for TornFiles {
             awaited: 0,
             name: Noted::none().and(name.as_bytes()),
         })
+    }
+
+    fn look(&self, _name: &str) -> Option<FileId> {
+        None
     }
 }
 

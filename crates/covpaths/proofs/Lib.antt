@@ -1,0 +1,5 @@
+mod Places
+mod GoodPaths
+mod Partly
+mod NewRows
+mod Related

@@ -1,0 +1,4 @@
+pub mod Paths
+pub mod Names
+pub mod Relation
+pub mod Steps

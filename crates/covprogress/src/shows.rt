@@ -1,0 +1,166 @@
+//! A folder that shows how much is read.
+
+use crate::counted::Counted;
+use crate::counts::Counts;
+use crate::line::{ERASED, line_at};
+use covstream::Failed;
+use covworld::{FileId, Folder, Opened};
+use std::alloc::{AllocGlobal, Global};
+use std::io::{IsTerminal, Write};
+use std::rt::Files;
+use std::sync::Arc;
+use std::thread;
+use std::thread::Threads;
+use std::time::{Clock, Duration};
+
+/// How long the line stays as it is, at least.
+const PAUSE: u64 = 200;
+
+/// How often, and how long in milliseconds, the end of reading waits for a line that is being written.
+const WAITS: u64 = 20;
+
+const WAIT: u64 = 1;
+
+/// A folder that shows on a terminal how much of its files is read. It opens the files of the folder below.
+#[derive(Drop)]
+pub struct ShowsProgress<F, R, T> {
+    folder: F,
+    rt: R,
+    terminal: T,
+    counts: Option<Arc<Counts, Global>>,
+}
+
+impl<F, R: AllocGlobal, T: IsTerminal> ShowsProgress<F, R, T> {
+    ghost use Rattle.std.specs.Prelude.{◌≡◌};
+
+    /// Shows how much of the files of `folder` is read on `terminal`, if that is a terminal.
+    pub fn new(folder: F, rt: R, terminal: T) -> ShowsProgress<F, R, T>
+        ensures { result.folder ≡ folder }
+    {
+        let counts = if terminal.is_terminal() {
+            Arc::new(rt.alloc(), Counts::new()).ok()
+        } else {
+            None
+        };
+        ShowsProgress {
+            folder,
+            rt,
+            terminal,
+            counts,
+        }
+    }
+}
+
+impl<F, R, T> Folder for ShowsProgress<F, R, T>
+where
+    F: Folder,
+    R: Files + Clock + Threads + AllocGlobal + Copy + Drop + Send + 'static,
+    T: Write + Copy + Drop + Send + 'static,
+{
+    ghost holds = { λ s. F.holds s.folder };
+
+    ghost may_refuse = { λ s. F.may_refuse s.folder };
+
+    ghost may_open = { λ s name file. F.may_open s.folder name file.source };
+
+    ghost may_be = { λ s. F.may_be s.folder };
+
+    type File = Counted<F::File>;
+
+    fn open(&self, name: &str) -> Result<Opened<Counted<F::File>>, Failed> {
+        match self.folder.open(name) {
+            Ok(opened) => Ok(Opened {
+                source: Counted::new(opened.source, counting(&self.counts)),
+                awaited: opened.awaited,
+                name: opened.name,
+            }),
+            Err(failed) => Err(failed),
+        }
+    }
+
+    fn look(&self, name: &str) -> Option<FileId> {
+        self.folder.look(name)
+    }
+
+    fn begin_reading(&self, names: &[String]) {
+        let Some(counts) = &self.counts else {
+            return;
+        };
+        counts.begin(
+            names.len() as u64,
+            bytes_of(&self.rt, names),
+            millis_of(&self.rt),
+        );
+        let Ok(shared) = Arc::try_clone(counts) else {
+            return;
+        };
+        let (rt, terminal) = (self.rt, self.terminal);
+        // The thread ends by itself, or with the process. Without it nothing is shown.
+        let _ = thread::spawn(&self.rt, move || show(rt, terminal, shared));
+    }
+
+    fn end_reading(&self) {
+        let Some(counts) = &self.counts else {
+            return;
+        };
+        counts.end();
+        for _ in 0..WAITS {
+            if !counts.is_writing() {
+                let mut terminal = self.terminal;
+                let _ = terminal.write(ERASED);
+                return;
+            }
+            thread::sleep(&self.rt, Duration::from_millis(WAIT));
+        }
+    }
+}
+
+/// Counts a file that is opened, and returns a share of the counts.
+fn counting(counts: &Option<Arc<Counts, Global>>) -> Option<Arc<Counts, Global>> {
+    let Some(counts) = counts else {
+        return None;
+    };
+    counts.add_file();
+    Arc::try_clone(counts).ok()
+}
+
+/// How many bytes the files called `names` have. A file that isn't there, or whose length isn't known, has none.
+fn bytes_of<R: Files>(rt: &R, names: &[String]) -> u64 {
+    let mut bytes: u64 = 0;
+    for name in names {
+        if let Ok(found) = rt.metadata(name.as_str()) {
+            bytes = bytes.saturating_add(found.len());
+        }
+    }
+    bytes
+}
+
+/// The time of the clock in milliseconds; 0 without a clock.
+fn millis_of<R: Clock>(rt: &R) -> u64 {
+    match rt.monotonic() {
+        Ok(time) => time
+            .as_secs()
+            .saturating_mul(1000)
+            .saturating_add(u64::from(time.subsec_millis())),
+        Err(_) => 0,
+    }
+}
+
+/// Writes the line again and again until all is read. A failed write changes nothing.
+fn show<R: Clock + AllocGlobal + Drop, T: Write + Drop>(
+    rt: R,
+    terminal: T,
+    counts: Arc<Counts, Global>,
+) {
+    let mut terminal = terminal;
+    for _ in 0..u64::MAX {
+        thread::sleep(&rt, Duration::from_millis(PAUSE));
+        if !counts.may_write() {
+            return;
+        }
+        if let Ok(line) = line_at(rt.alloc(), counts.now(millis_of(&rt))) {
+            let _ = terminal.write(line.get());
+        }
+        counts.wrote();
+    }
+}
