@@ -8,7 +8,7 @@ use Rattle.std.proofs.lemmas.Bool.Decides.{nat_tests}
 use Rattle.std.proofs.lemmas.List.Elements.{All-map, All-weaker}
 use Rattle.std.proofs.lemmas.List.Sums.{sum_by-cons}
 use Rattle.covdata.proofs.GoodTexts.{IsGoodTest-after, IsGoodTest-append}
-use Rattle.covdata.specs.Lawful.{AllFit, IsGoodName, IsGoodTest, IsLawful, IsLawfulSect}
+use Rattle.covdata.specs.Lawful.{AllFit, IsGoodName, IsGoodTest, IsLawful, IsLawfulSect, max_items}
 use Rattle.covdata.specs.Row.{SectData, SubmissionData, items_in}
 use Rattle.covpaths.specs.Names.{AreGoodNames, IsGoodTestIfAny, NamesData, named, named_sect}
 use Rattle.covpaths.specs.Paths.{IsGoodRule, MappedData, RuleData, ends_at_slash, is_apart, mapped_by, mapped_from, mapped_or, path_if_any, path_of, rest_after, rest_if_apart, rest_under}
@@ -18,14 +18,14 @@ use Rattle.covpaths.specs.Paths.{IsGoodRule, MappedData, RuleData, ends_at_slash
 rest_is : (old path rest : List ℕ) → rest_after old path ≡ Some rest → path ≡ old ++ rest
 rest_is [] path rest e = cc
 rest_is (a ∷ old) [] rest e = absurd cc
-rest_is (a ∷ old) (b ∷ path) rest e = by (eqb a b) refl
+rest_is (a ∷ old) (b ∷ path) rest e = by (eqb a b) refl (rest_is old path rest)
   where
-    by : (r : Bool) → eqb a b ≡ r → b ∷ path ≡ a ∷ old ++ rest
-    by true is =
+    by : (r : Bool) → eqb a b ≡ r → (rest_after old path ≡ Some rest → path ≡ old ++ rest) → b ∷ path ≡ a ∷ old ++ rest
+    by true is more =
         let same : a ≡ b = grind (arith, nat_tests) in
-        ap (λ (t : List ℕ). b ∷ t) (rest_is old path rest (sym (cond-true (eqb a b) (rest_after old path) None is) ∙ e))
+        ap (λ (t : List ℕ). b ∷ t) (more (sym (cond-true (eqb a b) (rest_after old path) None is) ∙ e))
         ∙ ap (λ (x : ℕ). x ∷ (old ++ rest)) (sym same)
-    by false is = let none : None ≡ Some rest = sym (cond-false (eqb a b) (rest_after old path) None is) ∙ e in absurd cc
+    by false is more = let none : None ≡ Some rest = sym (cond-false (eqb a b) (rest_after old path) None is) ∙ e in absurd cc
 
 -- what follows is apart from what stands before it
 pub under_parts : (old path rest : List ℕ) → rest_under old path ≡ Some rest → (path ≡ old ++ rest) × ((is_apart rest || ends_at_slash old) ≡ true)
@@ -61,11 +61,12 @@ mapped_good rule path mapped good fits e = of (rest_under rule.old path) refl e
 pub from_good : (place : ℕ) (rules : List RuleData) (path : List ℕ) → AllByRecursion IsGoodRule rules → IsGoodName path
     → IsGoodName (option_map_or (λ (m : MappedData). m.path) (mapped_from place rules path) path)
 from_good place [] path good name = name
-from_good place (rule ∷ rules) path (good, more) name = of (mapped_by rule path) refl
+from_good place (rule ∷ rules) path (good, more) name = of (mapped_by rule path) refl (from_good (suc place) rules path more name)
   where
-    of : (o : Option (List ℕ)) → mapped_by rule path ≡ o → IsGoodName (option_map_or (λ (m : MappedData). m.path) (mapped_or o place (mapped_from (suc place) rules path)) path)
-    of None is = from_good (suc place) rules path more name
-    of (Some mapped) is = mapped_good rule path mapped good name.fits is
+    of : (o : Option (List ℕ)) → mapped_by rule path ≡ o → IsGoodName (option_map_or (λ (m : MappedData). m.path) (mapped_from (suc place) rules path) path)
+        → IsGoodName (option_map_or (λ (m : MappedData). m.path) (mapped_or o place (mapped_from (suc place) rules path)) path)
+    of None is later = later
+    of (Some mapped) is later = mapped_good rule path mapped good name.fits is
 
 -- ---- submissions
 
@@ -94,7 +95,7 @@ sect_good names good s lawful = record {
 
 pub named_lawful : (names : NamesData) (s : SubmissionData) → AreGoodNames names → IsLawful s → IsLawful (named names s)
 named_lawful names s good lawful = record {
-  few = subst (λ (n : ℕ). n ≤ _) (sym (items_named names s.sects)) lawful.few;
+  few = subst (λ (n : ℕ). n ≤ max_items) (sym (items_named names s.sects)) lawful.few;
   texts = All-map IsLawfulSect (named_sect names) s.sects
       (All-weaker IsLawfulSect (λ (sect : SectData). IsLawfulSect (named_sect names sect)) (sect_good names good) s.sects lawful.texts);
   fit = fit_named names s.sects lawful.fit;

@@ -1,8 +1,8 @@
 -- Sections that get new names from the first one on.
 use Rattle.std.proofs.Common.{◌≡◌, ℕ, zero, suc, ◌<◌, Bool, List, [], ◌∷◌, length, map, take, Option, None, Some, refl, sym, ap, ◌∙◌, arith}
 use Rattle.std.specs.Option.{option_map_or}
-use Rattle.std.specs.Prelude.{unwrap_or}
-use Rattle.covdata.specs.Row.{SectData}
+use Rattle.std.specs.Prelude.{option_map, slice_get, unwrap_or}
+use Rattle.covdata.specs.Row.{SectData, SubmissionData}
 use Rattle.covpacked.specs.NewNames.{file_set, test_set}
 use Rattle.covpaths.specs.Names.{NamesData, marked, named_sect, used_after}
 use Rattle.covpaths.specs.Paths.{MappedData, RuleData, first_mapped, mapped_path}
@@ -33,6 +33,12 @@ mapped_here (Some m) s sects = refl
 mapped_later : (m : Option MappedData) (index : ℕ) (s : SectData) (sects : List SectData) → mapped_set (suc index) m (s ∷ sects) ≡ s ∷ mapped_set index m sects
 mapped_later None index s sects = refl
 mapped_later (Some m) index s sects = refl
+
+-- the file that the section at this index is found to have
+pub file_here : (index : ℕ) (sects : List SectData) (file : List ℕ) → Some file ≡ option_map (λ (s : SectData). s.file) (slice_get sects index) → file ≡ file_in index sects
+file_here index [] file found = absurd cc
+file_here zero (s ∷ sects) file found = cc
+file_here (suc index) (s ∷ sects) file found = file_here index sects file found
 
 -- the file of the next section is its own
 pub file_next : (rules : List RuleData) (index : ℕ) (sects : List SectData) → file_in index (partly (mapped_sect rules) index sects) ≡ file_in index sects
@@ -68,6 +74,9 @@ tested_next test (suc index) [] within = absurd (omega (arith, within))
 tested_next test (suc index) (s ∷ sects) within = ap (λ (rest : List SectData). tested_sect test s ∷ rest) (tested_next test index sects (omega (arith, within)))
 
 -- ---- both
+
+abbrev pub submission : List SectData → (odd : ℕ) → SubmissionData
+submission sects odd = record { sects = sects; odd = odd }
 
 pub named_without : (names : NamesData) (sects : List SectData) → names.test ≡ None → map (mapped_sect names.rules) sects ≡ map (named_sect names) sects
 named_without names [] none = refl

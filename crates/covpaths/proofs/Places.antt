@@ -1,6 +1,7 @@
 -- The words of rules, and what follows the beginning of a path, byte by byte.
-use Rattle.std.proofs.Common.{◌≡◌, ℕ, suc, ◌+◌, ◌-◌, ◌<◌, ◌≤◌, Bool, true, false, cond, ◌&&◌, ◌||◌, eqb, List, [], ◌∷◌, ◌++◌, length, take, drop, get_or, Option, None, Some, refl, sym, ap, ◌∙◌, append_assoc, append-nil, arith}
+use Rattle.std.proofs.Common.{◌≡◌, ℕ, suc, ◌+◌, ◌-◌, ◌<◌, ◌≤◌, Bool, true, false, cond, ◌&&◌, ◌||◌, not, eqb, List, [], ◌∷◌, ◌++◌, length, take, drop, get_or, Option, None, Some, refl, sym, ap, ap₂, ◌∙◌, append_assoc, append-nil, arith}
 use Rattle.std.specs.Prelude.{◌≢◌}
+use Rattle.std.specs.Bool.{beq}
 use Rattle.std.proofs.lemmas.Bool.{cond-true, cond-false, false≢true}
 use Rattle.std.proofs.lemmas.Bool.Decides.{nat_tests}
 use lib.Pointwise.{pointwise}
@@ -8,7 +9,7 @@ use Rattle.covpaths.specs.Paths.{ends_at_slash, is_apart, rest_after, rest_if_ap
 
 -- ---- a rule's word
 
-abbrev rule : (old new : List ℕ) → RuleData
+abbrev pub rule : (old new : List ℕ) → RuleData
 rule old new = record { old = old; new = new }
 
 abbrev HasNone : List ℕ → Type 0
@@ -29,11 +30,16 @@ rule_missing front (x ∷ xs) none =
     cond-false (eqb x 61) (Some (rule front xs)) (rule_after (front ++ x ∷ []) xs) other
     ∙ rule_missing (front ++ x ∷ []) xs (λ i lt. none (suc i) (omega arith))
 
-pub rule_is : (word xs ys : List ℕ) → word ≡ xs ++ 61 ∷ ys → HasNone xs → Some (rule xs ys) ≡ rule_of word
-rule_is word xs ys is none = sym (ap rule_of is ∙ rule_found [] xs ys none)
+-- the word is `old`, a sign and `new`
+pub rule_is : (word old new xs ys : List ℕ) → old ≡ xs → new ≡ ys → (word ≡ xs ++ 61 ∷ ys) × HasNone xs → rule_of word ≡ Some (rule old new)
+rule_is word old new xs ys same also (is, none) = ap rule_of is ∙ rule_found [] xs ys none ∙ ap₂ (λ (old new : List ℕ). Some (rule old new)) (sym same) (sym also)
 
-pub no_rule : (word : List ℕ) → HasNone word → None ≡ rule_of word
-no_rule word none = sym (rule_missing [] word none)
+pub no_rule : (word : List ℕ) → HasNone word → rule_of word ≡ None
+no_rule word none = rule_missing [] word none
+
+pub is_nothing : (bytes : List ℕ) → eqb (length bytes) 0 ≡ true → bytes ≡ []
+is_nothing [] e = refl
+is_nothing (b ∷ bytes) e = let some : eqb (suc (length bytes)) 0 ≡ false = grind (arith, nat_tests) in absurd (false≢true (sym some ∙ e))
 
 -- ---- what follows the beginning of a path
 
@@ -77,6 +83,10 @@ module _ (old path rest : List ℕ) (begins : pointwise eqb (take (length old) p
   rest_within within = sym (ap (rest_if_apart old) found ∙ cond-false (is_apart rest || ends_at_slash old) (Some rest) None within)
 
 -- ---- slashes at an end
+
+pub differ : (s t : Bool) → not (beq s t) ≡ true → s ≡ t → ⊥
+differ true t h e = false≢true (ap (λ (t : Bool). not (beq true t)) e ∙ h)
+differ false t h e = false≢true (ap (λ (t : Bool). not (beq false t)) e ∙ h)
 
 pub slash_last : (front : List ℕ) (b : ℕ) → ends_at_slash (front ++ b ∷ []) ≡ eqb b 47
 slash_last [] b = refl

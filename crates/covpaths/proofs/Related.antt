@@ -94,13 +94,13 @@ from_relation place (rule ∷ rules) path mapped is = ⊎_elim
 
 to_relation : (place : ℕ) (rules : List RuleData) (path : List ℕ) → IsMapped rules path (given place rules path)
 to_relation place [] path = refl
-to_relation place (rule ∷ rules) path = of (mapped_by rule path) refl
+to_relation place (rule ∷ rules) path = of (mapped_by rule path) refl (to_relation (suc place) rules path)
   where
-    of : (o : Option (List ℕ)) → mapped_by rule path ≡ o
+    of : (o : Option (List ℕ)) → mapped_by rule path ≡ o → IsMapped rules path (given (suc place) rules path)
         → IsMapped (rule ∷ rules) path (option_map_or (λ (m : MappedData). m.path) (mapped_or (mapped_by rule path) place (mapped_from (suc place) rules path)) path)
-    of None e = subst (IsMapped (rule ∷ rules) path) (sym (ap (λ (o : Option (List ℕ)). option_map_or (λ (m : MappedData). m.path) (mapped_or o place (mapped_from (suc place) rules path)) path) e))
-        (inr ((λ other a. let none : None ≡ Some other = sym e ∙ applies_so rule path other a in absurd cc), to_relation (suc place) rules path))
-    of (Some mapped) e = subst (IsMapped (rule ∷ rules) path) (sym (ap (λ (o : Option (List ℕ)). option_map_or (λ (m : MappedData). m.path) (mapped_or o place (mapped_from (suc place) rules path)) path) e))
+    of None e later = subst (IsMapped (rule ∷ rules) path) (sym (ap (λ (o : Option (List ℕ)). option_map_or (λ (m : MappedData). m.path) (mapped_or o place (mapped_from (suc place) rules path)) path) e))
+        (inr ((λ other a. let none : None ≡ Some other = sym e ∙ applies_so rule path other a in absurd cc), later))
+    of (Some mapped) e later = subst (IsMapped (rule ∷ rules) path) (sym (ap (λ (o : Option (List ℕ)). option_map_or (λ (m : MappedData). m.path) (mapped_or o place (mapped_from (suc place) rules path)) path) e))
         (inl (so_applies rule path mapped e))
 
 pub related : (rules : List RuleData) (path mapped : List ℕ) → IsMapped rules path mapped ↔ (mapped ≡ mapped_path rules path)
