@@ -3,7 +3,7 @@ use Rattle.std.proofs.Common.{◌≡◌, ℕ, zero, suc, ◌<◌, Bool, List, []
 use Rattle.std.specs.Option.{option_map_or}
 use Rattle.std.specs.Prelude.{option_map, slice_get, unwrap_or}
 use Rattle.covdata.specs.Row.{SectData, SubmissionData}
-use Rattle.covpacked.specs.NewNames.{file_set, test_set}
+use Rattle.covpacked.specs.NewNames.{test_set}
 use Rattle.covpaths.specs.Names.{NamesData, marked, named_sect, used_after}
 use Rattle.covpaths.specs.Paths.{MappedData, RuleData, first_mapped, mapped_path}
 use Rattle.covpaths.specs.Steps.{file_in, mapped_sect, mapped_set, tested_sect}

@@ -1,7 +1,6 @@
-use Rattle.std.proofs.Common.{◌≡◌, List, ℕ, Bool, Option, Some, None, Ok, OnOk, ap, sym, ◌∙◌, subst}
+use Rattle.std.proofs.Common.{◌≡◌, List, ℕ, Option, Some, None, OnOk, ap, sym, ◌∙◌, subst}
 use Rattle.std.specs.Prelude.{option_map}
 use Rattle.std.proofs.lemmas.Result.{on_ok_weaker}
-use Rattle.covdata.specs.Row.{SectData}
 use Rattle.covpacked.specs.NewNames.{file_set}
 use Rattle.covpaths.specs.Names.{marked}
 use Rattle.covpaths.specs.Paths.{MappedData, first_mapped}

@@ -1,5 +1,5 @@
-use Rattle.std.proofs.Common.{◌≡◌, List, ℕ, map, ap, ap₂, ◌∙◌, sym, subst}
-use Rattle.covdata.specs.Row.{SectData, SubmissionData}
+use Rattle.std.proofs.Common.{◌≡◌, List, map, ap, ap₂, ◌∙◌, sym, subst}
+use Rattle.covdata.specs.Row.{SectData}
 use Rattle.covdata.specs.Lawful.{IsLawful}
 use Rattle.covpacked.specs.PackedView.{PackedData}
 use Rattle.covpaths.specs.Names.{named_sect}
