@@ -4,4 +4,5 @@ pub mod Folder
 pub mod OutputFiles
 pub mod Begun
 pub mod World
+pub mod StdFaults
 pub mod Files

@@ -316,13 +316,16 @@ impl From<AllocError> for OutputFault {
 }
 
 impl From<io::Error> for OutputFault {
-    ghost from_gives = { λ _ _. Unit {0} };
+    ghost use Rattle.std.specs.Prelude.{◌≡◌};
+    ghost use Rattle.std.specs.IoError.{error_kind};
+    ghost use Rattle.covworld.specs.StdFaults.{fault_of_kind};
+
+    ghost from_gives = { λ e f. f ≡ fault_of_kind (error_kind e) };
 
     fn from(error: io::Error) -> OutputFault {
-        if error.kind() == ErrorKind::OutOfMemory {
-            OutputFault::Memory
-        } else {
-            OutputFault::Failed
+        match error.kind() {
+            ErrorKind::OutOfMemory => OutputFault::Memory,
+            _ => OutputFault::Failed,
         }
     }
 }

@@ -442,7 +442,11 @@ impl From<Memory> for OutputFault {
 }
 
 impl From<io::Error> for FolderFault {
-    ghost from_gives = { λ _ _. Unit {0} };
+    ghost use Rattle.std.specs.Prelude.{◌≡◌};
+    ghost use Rattle.std.specs.IoError.{error_kind};
+    ghost use Rattle.covworld.specs.StdFaults.{folder_fault_of_kind};
+
+    ghost from_gives = { λ e f. f ≡ folder_fault_of_kind (error_kind e) };
 
     /// A name that isn't UTF-8 is that of a foreign file.
     fn from(error: io::Error) -> FolderFault {
