@@ -3,3 +3,4 @@ mod GoodPaths
 mod Partly
 mod NewRows
 mod Related
+mod Meets

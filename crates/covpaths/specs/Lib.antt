@@ -1,4 +1,5 @@
 pub mod Paths
 pub mod Names
 pub mod Relation
+pub mod Meeting
 pub mod Steps

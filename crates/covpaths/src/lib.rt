@@ -19,7 +19,9 @@ mod renaming;
 mod rule;
 mod used;
 
-pub use laws::{rows_get_new_names, the_first_rule_applies};
+pub use laws::{
+    files_apart_stay_apart, files_that_meet_add_up, rows_get_new_names, the_first_rule_applies,
+};
 pub use names::NewNames;
 pub use renaming::rename;
 pub use rule::{PathRule, RuleFault, rest_under};
