@@ -635,6 +635,26 @@ pub combine_lcov2_refused : fault_of covcollect (codes "covcollect" ∷ codes "c
 unfolding clap_on_literals
 combine_lcov2_refused = refl
 
+pub combine_test_twice_refused : fault_of covcollect (codes "covcollect" ∷ codes "combine" ∷ codes "--one-test=" ∷ codes "--one-test=t" ∷ codes "f" ∷ []) ≡ kind.ArgumentConflict ∷ []
+unfolding clap_on_literals
+combine_test_twice_refused = refl
+
+pub combine_list_twice_refused : fault_of covcollect (codes "covcollect" ∷ codes "combine" ∷ codes "--files-from" ∷ codes "a" ∷ codes "--files-from" ∷ codes "b" ∷ []) ≡ kind.ArgumentConflict ∷ []
+unfolding clap_on_literals
+combine_list_twice_refused = refl
+
+pub combine_null_value_refused : fault_of covcollect (codes "covcollect" ∷ codes "combine" ∷ codes "--null=yes" ∷ codes "f" ∷ []) ≡ kind.TooManyValues ∷ []
+unfolding clap_on_literals
+combine_null_value_refused = refl
+
+pub combine_no_path_refused : fault_of covcollect (codes "covcollect" ∷ codes "combine" ∷ codes "f" ∷ codes "--path" ∷ []) ≡ kind.InvalidValue ∷ []
+unfolding clap_on_literals
+combine_no_path_refused = refl
+
+pub merge_path_refused : fault_of covcollect (codes "covcollect" ∷ codes "merge" ∷ codes "--path" ∷ codes "a=b" ∷ codes "f" ∷ []) ≡ kind.UnknownArgument ∷ []
+unfolding clap_on_literals
+merge_path_refused = refl
+
 -- ---- `html`
 
 pub html_few_asked : (folder : String Global) → codes "out" ≡ string_bytes folder

@@ -31,7 +31,7 @@ most_of id = cond (bytes_eq id (codes "jobs")) (Some 64) (cond (bytes_eq id (cod
 
 abbrev pub is_flag : Text → Bool
 is_flag id = bytes_eq id (codes "gcov") || bytes_eq id (codes "lcov2") || bytes_eq id (codes "json") || bytes_eq id (codes "strict")
-    || bytes_eq id (codes "large") || bytes_eq id (codes "list") || bytes_eq id (codes "quiet")
+    || bytes_eq id (codes "large") || bytes_eq id (codes "list") || bytes_eq id (codes "quiet") || bytes_eq id (codes "null")
 
 -- the argument has a value, and its first value fits, as does the way in which the values are read
 abbrev pub FitsValues : Text → Reading → List Text → Type 0

@@ -8,6 +8,7 @@ ghost use Rattle.clap.specs.declared.error.kind.ErrorKind.TheVariants as kind;
 ghost use Rattle.clap.specs.Words.{subcommand_of, first_of};
 ghost use Rattle.covcommand.specs.Asked.{AsksFor, AsksForAll, IsSizeOf, IsStrictnessOf, rows_met};
 ghost use Rattle.covcommand.specs.CommandLine.{covcollect};
+ghost use Rattle.covcommand.specs.Spelling.{spelled_out};
 ghost use Rattle.covcommand.specs.declared.asked.Command.TheVariants.{Check, Combine, Extract, Gcov, Html, Merge, Remove, Session, Summary};
 ghost use Rattle.covcommand.specs.declared.asked.Command.TheVariants as commands;
 ghost use Rattle.covcommand.specs.declared.asked.NameEnd.TheVariants as ends;
@@ -207,6 +208,18 @@ pub fn combines_by_their_words()
     ensures no_jobs { fault_of covcollect (codes "covcollect" ∷ codes "combine" ∷ codes "-j" ∷ codes "0" ∷ codes "f" ∷ []) ≡ kind.ValueValidation ∷ [] }
     ensures no_files { fault_of covcollect (codes "covcollect" ∷ codes "combine" ∷ codes "--expect" ∷ codes "0" ∷ codes "f" ∷ []) ≡ kind.ValueValidation ∷ [] }
     ensures lcov2 { fault_of covcollect (codes "covcollect" ∷ codes "combine" ∷ codes "--lcov2" ∷ codes "f" ∷ []) ≡ kind.UnknownArgument ∷ [] }
+    ensures test_twice { fault_of covcollect (codes "covcollect" ∷ codes "combine" ∷ codes "--one-test=" ∷ codes "--one-test=t" ∷ codes "f" ∷ []) ≡ kind.ArgumentConflict ∷ [] }
+    ensures list_twice { fault_of covcollect (codes "covcollect" ∷ codes "combine" ∷ codes "--files-from" ∷ codes "a" ∷ codes "--files-from" ∷ codes "b" ∷ []) ≡ kind.ArgumentConflict ∷ [] }
+    ensures null_value { fault_of covcollect (codes "covcollect" ∷ codes "combine" ∷ codes "--null=yes" ∷ codes "f" ∷ []) ≡ kind.TooManyValues ∷ [] }
+    ensures no_path { fault_of covcollect (codes "covcollect" ∷ codes "combine" ∷ codes "f" ∷ codes "--path" ∷ []) ≡ kind.InvalidValue ∷ [] }
+    ensures merge_path { fault_of covcollect (codes "covcollect" ∷ codes "merge" ∷ codes "--path" ∷ codes "a=b" ∷ codes "f" ∷ []) ≡ kind.UnknownArgument ∷ [] }
+{}
+
+/// `--one-test` alone is spelled out, wherever it stands before `--`. No other word changes.
+pub fn words_are_spelled_out()
+    ensures alone { spelled_out (codes "covcollect" ∷ codes "combine" ∷ codes "--one-test" ∷ codes "f" ∷ codes "--one-test" ∷ []) ≡ codes "covcollect" ∷ codes "combine" ∷ codes "--one-test=" ∷ codes "f" ∷ codes "--one-test=" ∷ [] }
+    ensures named { spelled_out (codes "covcollect" ∷ codes "combine" ∷ codes "--one-test=t" ∷ codes "--one-tests" ∷ codes "f" ∷ []) ≡ codes "covcollect" ∷ codes "combine" ∷ codes "--one-test=t" ∷ codes "--one-tests" ∷ codes "f" ∷ [] }
+    ensures name { spelled_out (codes "covcollect" ∷ codes "combine" ∷ codes "--one-test" ∷ codes "--" ∷ codes "--one-test" ∷ codes "--one-test" ∷ []) ≡ codes "covcollect" ∷ codes "combine" ∷ codes "--one-test=" ∷ codes "--" ∷ codes "--one-test" ∷ codes "--one-test" ∷ [] }
 {}
 
 /// What `html` asks for: its folder, which has to be named, the texts that are given, where sources lie, in order, and files.

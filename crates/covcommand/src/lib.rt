@@ -39,7 +39,7 @@ pub use help::VERSION;
 pub use laws::{
     calls_are_refused, calls_are_taken, checks_by_their_words, combines_by_their_words,
     filters_by_their_words, large_by_their_words, outputs_by_their_words, shows_by_their_words,
-    strict_by_their_words, totals_by_their_words,
+    strict_by_their_words, totals_by_their_words, words_are_spelled_out,
 };
 pub use names::Names;
 pub use parsing::command;
