@@ -1,11 +1,16 @@
 -- The files that a call reads, by their names.
 use Rattle.std.specs.Io.KnownBytes.{Consumes, Keeps}
 use Rattle.std.specs.List.{AllByRecursion, zip}
-use Rattle.std.specs.Prelude.{◌≡◌, ◌⊎◌, ◌<◌, ℕ, suc, List, take, Option, None, Some}
+use Rattle.std.specs.Prelude.{◌≡◌, ◌⊎◌, ◌<◌, ℕ, zero, suc, List, take, Option, None, Some}
 use Rattle.covread.specs.Outcome.{max_bytes}
 use Rattle.covstream.specs.declared.stream.Source.{Ghosts as SourceOf}
 use Rattle.covworld.specs.declared.folder.FileId.{FileId}
 use Rattle.covworld.specs.declared.folder.Folder.{Ghosts as FolderOf}
+
+-- the id of the file with these numbers. No file has the number 0, so it says that the id isn't known
+abbrev pub file_id : (device file : ℕ) → Option FileId
+file_id device zero = None
+file_id device (suc below) = Some (record { device = device; file = suc below })
 
 -- the folder that a call reads files from. `holds`: the bytes of the file with this name, if the folder knows them. `MayFail`:
 -- this file may fail to be read. `MayBe`: this name may be of the file with this id, or of one whose id isn't known

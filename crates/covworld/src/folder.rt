@@ -1,6 +1,6 @@
 //! The directory trait that subcommands read their files from.
 
-ghost use Rattle.std.specs.Prelude.{◌≡◌, ℕ, List, Option, None, IfOk, IfErr};
+ghost use Rattle.std.specs.Prelude.{◌≡◌, ◌≢◌, ℕ, List, Option, None, IfOk, IfErr, IfSome};
 ghost use Rattle.std.specs.Io.KnownBytes.{Keeps};
 
 use crate::named_file::open_named;
@@ -28,6 +28,20 @@ pub struct FileId {
     pub device: u64,
     /// The number of the file on this device.
     pub file: u64,
+}
+
+impl FileId {
+    ghost use Rattle.covworld.specs.Folder.{file_id};
+
+    /// The id with these numbers, or `None` if the file's number is 0. No file has this number, so it says that the id isn't known.
+    fn known(device: u64, file: u64) -> Option<FileId>
+        ensures { result ≡ file_id device file }
+    {
+        if file == 0 {
+            return None;
+        }
+        Some(FileId { device, file })
+    }
 }
 
 /// Opens files by their names.
@@ -96,7 +110,7 @@ impl<'a, R: Files> Folder for FromFiles<'a, R> {
 
     ghost may_open = { λ _ _ _. Unit {0} };
 
-    ghost may_be = { λ _ _ _. Unit {0} };
+    ghost may_be = { λ _ _ id. IfSome id (λ known. known.file ≢ 0) };
 
     type File = FromRead<R::File>;
 
@@ -110,14 +124,11 @@ impl<'a, R: Files> Folder for FromFiles<'a, R> {
         Ok(file.into_opened(awaited))
     }
 
-    /// Follows links. The id is that of the file behind them; no file has the number 0.
+    /// Follows links: the id is that of the file behind them.
     fn look(&self, name: &str) -> Option<FileId> {
         match self.files.metadata(name) {
-            Ok(found) if found.ino() != 0 => Some(FileId {
-                device: found.dev(),
-                file: found.ino(),
-            }),
-            _ => None,
+            Ok(found) => FileId::known(found.dev(), found.ino()),
+            Err(_) => None,
         }
     }
 }
