@@ -1,6 +1,8 @@
 //! How much is read, counted by all threads.
 
+use std::sync::Wait;
 use std::sync::atomic::{AtomicBool, AtomicU64, Ordering};
+use std::thread::Parker;
 
 /// How much of a call's files is read. All threads of the call share it.
 #[derive(Drop)]
@@ -15,6 +17,8 @@ pub(crate) struct Counts {
     all_bytes: AtomicU64,
     /// When reading began, in milliseconds of the clock.
     begun: AtomicU64,
+    /// Wakes the thread that waits until reading begins.
+    has_begun: Parker,
     /// Whether all is read.
     is_over: AtomicBool,
     /// Whether the line is being written.
@@ -43,16 +47,23 @@ impl Counts {
             all_files: AtomicU64::new(0),
             all_bytes: AtomicU64::new(0),
             begun: AtomicU64::new(0),
+            has_begun: Parker::new(),
             is_over: AtomicBool::new(false),
             is_writing: AtomicBool::new(false),
         }
     }
 
-    /// Says how much is to be read, and when reading begins.
+    /// Says how much is to be read, and when reading begins. Wakes the thread that waits for this.
     pub(crate) fn begin(&self, files: u64, bytes: u64, millis: u64) {
         self.all_files.store(files, Ordering::SeqCst);
         self.all_bytes.store(bytes, Ordering::SeqCst);
         self.begun.store(millis, Ordering::SeqCst);
+        self.has_begun.unpark();
+    }
+
+    /// Waits until reading begins. At most one thread may wait.
+    pub(crate) fn wait_for_begin<R: Wait>(&self, rt: &R) {
+        self.has_begun.park(rt);
     }
 
     /// Counts a file that is opened.

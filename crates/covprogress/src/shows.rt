@@ -2,23 +2,22 @@
 
 use crate::counted::Counted;
 use crate::counts::Counts;
-use crate::line::{ERASED, line_at};
+use crate::line::ERASED;
+use crate::showing::{millis_of, started};
 use covstream::Failed;
 use covworld::{FileId, Folder, Opened};
 use std::alloc::{AllocGlobal, Global};
 use std::io::{IsTerminal, Write};
 use std::rt::Files;
-use std::sync::Arc;
+use std::sync::{Arc, Wait};
 use std::thread;
 use std::thread::Threads;
 use std::time::{Clock, Duration};
 
-/// How long the line stays as it is, at least.
-const PAUSE: u64 = 200;
-
-/// How often, and how long in milliseconds, the end of reading waits for a line that is being written.
+/// How often the end of reading waits for a line that is being written.
 const WAITS: u64 = 20;
 
+/// How long each of these waits is, in milliseconds.
 const WAIT: u64 = 1;
 
 /// A folder that shows on a terminal how much of its files is read. It opens the files of the folder below.
@@ -30,15 +29,20 @@ pub struct ShowsProgress<F, R, T> {
     counts: Option<Arc<Counts, Global>>,
 }
 
-impl<F, R: AllocGlobal, T: IsTerminal> ShowsProgress<F, R, T> {
+impl<F, R, T> ShowsProgress<F, R, T>
+where
+    R: Clock + Threads + Wait + AllocGlobal + Copy + Drop + Send + 'static,
+    T: IsTerminal + Write + Copy + Drop + Send + 'static,
+{
     ghost use Rattle.std.specs.Prelude.{◌≡◌};
 
-    /// Shows how much of the files of `folder` is read on `terminal`, if that is a terminal.
+    /// Shows how much of the files of `folder` is read on `terminal`, if that is a terminal. Starts the thread that does so once
+    /// reading begins. Nothing is shown if memory runs out or no thread can be made.
     pub fn new(folder: F, rt: R, terminal: T) -> ShowsProgress<F, R, T>
         ensures { result.folder ≡ folder }
     {
         let counts = if terminal.is_terminal() {
-            Arc::new(rt.alloc(), Counts::new()).ok()
+            started(rt, terminal)
         } else {
             None
         };
@@ -51,12 +55,7 @@ impl<F, R: AllocGlobal, T: IsTerminal> ShowsProgress<F, R, T> {
     }
 }
 
-impl<F, R, T> Folder for ShowsProgress<F, R, T>
-where
-    F: Folder,
-    R: Files + Clock + Threads + AllocGlobal + Copy + Drop + Send + 'static,
-    T: Write + Copy + Drop + Send + 'static,
-{
+impl<F: Folder, R: Files + Clock, T: Write + Copy> Folder for ShowsProgress<F, R, T> {
     ghost holds = { λ s. F.holds s.folder };
 
     ghost may_refuse = { λ s. F.may_refuse s.folder };
@@ -91,12 +90,6 @@ where
             bytes_of(&self.rt, names),
             millis_of(&self.rt),
         );
-        let Ok(shared) = Arc::try_clone(counts) else {
-            return;
-        };
-        let (rt, terminal) = (self.rt, self.terminal);
-        // The thread ends by itself, or with the process. Without it nothing is shown.
-        let _ = thread::spawn(&self.rt, move || show(rt, terminal, shared));
     }
 
     fn end_reading(&self) {
@@ -133,34 +126,4 @@ fn bytes_of<R: Files>(rt: &R, names: &[String]) -> u64 {
         }
     }
     bytes
-}
-
-/// The time of the clock in milliseconds; 0 without a clock.
-fn millis_of<R: Clock>(rt: &R) -> u64 {
-    match rt.monotonic() {
-        Ok(time) => time
-            .as_secs()
-            .saturating_mul(1000)
-            .saturating_add(u64::from(time.subsec_millis())),
-        Err(_) => 0,
-    }
-}
-
-/// Writes the line again and again until all is read. A failed write changes nothing.
-fn show<R: Clock + AllocGlobal + Drop, T: Write + Drop>(
-    rt: R,
-    terminal: T,
-    counts: Arc<Counts, Global>,
-) {
-    let mut terminal = terminal;
-    for _ in 0..u64::MAX {
-        thread::sleep(&rt, Duration::from_millis(PAUSE));
-        if !counts.may_write() {
-            return;
-        }
-        if let Ok(line) = line_at(rt.alloc(), counts.now(millis_of(&rt))) {
-            let _ = terminal.write(line.get());
-        }
-        counts.wrote();
-    }
 }
