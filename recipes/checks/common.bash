@@ -72,6 +72,18 @@ free_port() { # FIRST: a port from there that nobody listens on
     echo "$port"
 }
 
+# --- another user ---------------------------------------------------------------------------------------------------------------
+
+# So that "${nobody[@]}" can run $program in this scenario. The folders above are mktemp's, which others may not search.
+nobody=(setpriv --reuid=nobody --regid=nogroup --clear-groups)
+open_up() {
+    [ "$(id -u)" -eq 0 ] || return 1
+    chmod o+x ${CHECKS_RUN+"$CHECKS_RUN"} "$BATS_RUN_TMPDIR" "$BATS_RUN_TMPDIR"/test "$work"
+    install -m 755 "$COVCOLLECT" "$work/program"
+    program=$work/program
+    "${nobody[@]}" "$program" --version >/dev/null
+}
+
 # --- checks ---------------------------------------------------------------------------------------------------------------------
 
 # bats hands descriptor 3 on as it is. recipes/check counts the lines that begin with ok and FAILED.

@@ -26,16 +26,6 @@ texts() {
 small() { printf 'TN:t\nSF:/src/%s.c\nDA:1,%d\nLF:1\nLH:%d\nend_of_record\n' "$1" "$2" $(($2 > 0)); } # NAME COUNT
 rights() { stat -c %a "$1"; }
 
-# The folders above are mktemp's, which others may not search.
-open_up() {
-    [ "$(id -u)" -eq 0 ] || return 1
-    chmod o+x ${CHECKS_RUN+"$CHECKS_RUN"} "$BATS_RUN_TMPDIR" "$BATS_RUN_TMPDIR"/test "$work"
-    install -m 755 "$COVCOLLECT" "$work/program"
-    program=$work/program
-    "${nobody[@]}" "$program" --version >/dev/null
-}
-nobody=(setpriv --reuid=nobody --regid=nogroup --clear-groups)
-
 # A call that writes the sum of 1.info and 2.info into all.info, where 4.info was, with a disk that goes wrong.
 onto_disk() { # HOW
     [ -f "$work/disk.so" ] || gcc -O2 -shared -fPIC -o "$work/disk.so" "$recipes/checks/disk.c" -ldl
