@@ -17,8 +17,8 @@
 #
 #     --merge-only       don't build and test: merge the tracefiles that are named, and nothing else
 #     --empty skip       a tracefile without a record is reported and skipped, and one with inconsistent or skipped lines is reported and
-#                        merged (default: fail, by covcollect's --strict: where there is one with no record, or with such lines, its job
-#                        went wrong)
+#                        merged (default: fail, by covcollect combine --strict: where there is one that is packed, has no record, or has
+#                        such lines, its job went wrong)
 #     --lines PERCENT    fail if fewer lines are hit, for example 80 or 79.95, as covcollect's --fail-under-lines
 #     --remove PATTERN   leave out source files that match; can be repeated (default: '/usr/*')
 #     --test-name NAME   the test name in the tracefile (default: unit)
@@ -38,15 +38,16 @@
 #
 # COVERAGE_BUILD and COVERAGE_TEST run in bash -euo pipefail, so each can be several commands. The folder of results has all.info
 # (every source), own.info (without the removed ones), summary.txt and html/. If a step fails, the folder of the last run stays as it
-# is. Tracefiles that are named may be of LCOV 1 or 2. The program must have --strict.
+# is. Tracefiles that are named may be of LCOV 1 or 2. The program must have combine.
 #
-# If a tracefile has no record, such as an error page in its place, or inconsistent ('odd') or skipped lines, standard error has
+# Standard error names each tracefile that is wrong:
 #
-#     jobs/unit.info: sections 0 items 0 odd 0 skipped 41 first <html> at 1
+#     jobs/unit.info: no record (begins with "<html>")
 #
-# Exit status: 0 done; 1 the tests wrote no counts, or a tracefile isn't there or can't be read; 2 wrong call, or a program is missing;
-# 3 no memory; 4 a tracefile is refused, or checksums clash; 5 a tracefile has no record, or inconsistent or skipped lines (the file or the
-# line is named on standard error); 6 too few lines are hit (the results are written); otherwise the status of the command that failed.
+# Exit status: 0 done; 1 the tests wrote no counts, or a tracefile isn't there or can't be read; 2 wrong call, a program is missing, or
+# a tracefile is named twice, also by two names; 3 no memory; 4 a tracefile is refused, or checksums clash; 5 a tracefile is packed, or has
+# no record, or inconsistent or skipped lines; 6 too few lines are hit (the results are written); otherwise the status of the command that
+# failed.
 set -euo pipefail
 
 say() { printf 'ci.sh: %s\n' "$*" >&2; }
@@ -98,11 +99,8 @@ case $empty in fail|skip) ;; *) wrong "--empty: $empty is neither fail nor skip"
 here=$(cd "$(dirname "${BASH_SOURCE[0]}")" && pwd)
 program=${COVCOLLECT-covcollect}
 command -v "$program" >/dev/null || wrong "$program isn't there"
-help=$("$program" merge --help 2>/dev/null </dev/null) || lost "$program" $?
-[[ $help == *--strict* ]] || wrong "$program has no --strict, so it is older than ci.sh"
-# Tracefiles, and their merge, may be larger than 64 MiB.
-large=()
-[[ $help != *--large* ]] || large=(--large)
+help=$("$program" --help 2>/dev/null </dev/null) || lost "$program" $?
+[[ $help == *combine* ]] || wrong "$program has no combine, so it is older than ci.sh"
 limits=()
 if [ -n "$threshold" ]; then
     limits=(--fail-under-lines="$threshold")
@@ -149,15 +147,16 @@ trap 'exit 130' INT
 trap 'exit 143' TERM HUP
 chmod 755 "$next"
 
-# covcollect reports what is wrong on standard error. Unless only the threshold isn't reached, the job ends with its status.
+# covcollect reports what is wrong on standard error. Unless only the threshold isn't reached, the job ends with its status. Tracefiles,
+# and their merge, may be larger than 64 MiB. What combine prints is the summary of all sources.
 short=no
 collect() { # FILE SUBCOMMAND WORDS...: runs covcollect, which writes FILE
     local file=$1 command=$2 status=0
-    "$program" "$command" "${large[@]}" -o "$next/$file" "${@:3}" || status=$?
+    "$program" "$command" -o "$next/$file" "${@:3}" >/dev/null || status=$?
     case $status in
         0) ;;
         4) say "covcollect $command: a tracefile is refused or checksums clash, see above; $output is unchanged"; exit 4 ;;
-        5) say "a tracefile has no record, or odd or skipped lines, see above (or use --empty skip); $output is unchanged"; exit 5 ;;
+        5) say "a tracefile has no record, or lines that don't fit, see above (or use --empty skip); $output is unchanged"; exit 5 ;;
         6) short=yes ;;
         *) say "covcollect $command failed with status $status; $output is unchanged"; exit $status ;;
     esac
@@ -206,10 +205,10 @@ if [ $capture = yes ]; then
     files=("$next"/parts/*.info)
 fi
 
-# 3. Tracefiles of other jobs are merged as they are, by --strict. With --empty skip, intake looks at each, and copies are merged.
-strict=()
+# 3. Tracefiles of other jobs are merged as they are, by combine. With --empty skip, intake looks at each, and copies are merged.
+merge=(merge --lcov2 --large)
 if [ ${#handed[@]} -gt 0 ] && [ $empty = fail ]; then
-    strict=(--strict)
+    merge=(combine --strict --quiet)
     files+=("${handed[@]}")
 elif [ ${#handed[@]} -gt 0 ]; then
     status=0
@@ -223,9 +222,9 @@ elif [ ${#handed[@]} -gt 0 ]; then
 fi
 
 # 4. Merge, remove what isn't the project's own, summarize and compare with the threshold.
-collect all.info merge --lcov2 "${strict[@]}" --jobs "$jobs" -- "${files[@]}"
-collect own.info remove -- "$next/all.info" "${patterns[@]}"
-collect summary.txt summary "${limits[@]}" -- "$next/own.info"
+collect all.info "${merge[@]}" --jobs "$jobs" -- "${files[@]}"
+collect own.info remove --large -- "$next/all.info" "${patterns[@]}"
+collect summary.txt summary --large "${limits[@]}" -- "$next/own.info"
 rm -r "$next/parts"
 if [ $html = yes ]; then
     # own.info has no end lines of functions. LCOV 2 would guess them, and stop at a lambda or a local class that is never called: its

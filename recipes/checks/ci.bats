@@ -71,13 +71,21 @@ load projects
     printf 'TN:unit\nDA:1,x\n' >jobs/broken.info
     call ci/ci.sh --no-html jobs/other.info jobs/broken.info
     ended 4 'ci.sh: status 4 for a broken tracefile'
-    says "$work/err" 'ci.sh: the broken tracefile and its line are told' 'jobs/broken.info: refused BadLine at 2'
+    says "$work/err" 'ci.sh: the broken tracefile and its line are told' 'jobs/broken.info:2: the fields don'\''t fit the line'\''s key: was the file cut here?'
     rm jobs/broken.info
     printf 'SF:/x.c\nDA:12,1,abc\nend_of_record\n' >jobs/a.info
     printf 'SF:/x.c\nDA:12,1,abd\nend_of_record\n' >jobs/b.info
     call ci/ci.sh --no-html jobs/a.info jobs/b.info
     ended 4 'ci.sh: status 4 for checksums that clash'
-    clashes 'ci.sh: the clash is told' /x.c 12 abc abd
+    holds 'ci.sh: the clash is told' grep -qxE '/x\.c:12: checksum ab[cd], but ab[cd] in an earlier record: two versions of the source\?' "$work/err"
+    ln -s other.info jobs/same.info
+    call ci/ci.sh --no-html jobs/other.info jobs/same.info
+    ended 2 'ci.sh: a tracefile of two names'
+    says "$work/err" 'ci.sh: which are told' 'jobs/same.info: the same file as jobs/other.info'
+    rm jobs/same.info
+    call bash -c 'gzip -c jobs/other.info >jobs/other.gz && ci/ci.sh --no-html jobs/a.info jobs/other.gz'
+    ended 5 'ci.sh: a packed tracefile'
+    says "$work/err" 'ci.sh: and what to do' "jobs/other.gz: packed by gzip (unpack it first, or name it as <(zcat 'jobs/other.gz'))"
     call ci/ci.sh --no-html jobs/none.info
     ended 1 'ci.sh: a tracefile that no job handed in'
     call env COVERAGE_TEST='echo no >&2; exit 7' ci/ci.sh --no-html

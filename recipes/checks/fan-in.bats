@@ -35,8 +35,8 @@ load projects
     printf '<!DOCTYPE html>\n<html>404</html>\n' >jobs/page.info
     call ci/ci.sh --merge-only --no-html jobs/*.info
     ended 5 'ci.sh: status 5 for a tracefile without a record'
-    says "$work/err" 'ci.sh: and what to do' 'ci.sh: a tracefile has no record, or odd or skipped lines, see above (or use --empty skip); coverage is unchanged'
-    holds 'ci.sh: with the name of the file and its first line' grep -qE '^jobs/page\.info: sections 0 items 0 odd 0 skipped 2 first <!DOCTYPE' "$work/err"
+    says "$work/err" 'ci.sh: and what to do' "ci.sh: a tracefile has no record, or lines that don't fit, see above (or use --empty skip); coverage is unchanged"
+    says "$work/err" 'ci.sh: with the name of the file and its first line' 'jobs/page.info: no record (begins with "<!DOCTYPE html>")'
     call diff -r ../before coverage
     ended 0 'ci.sh: the results are as they were'
     call ci/ci.sh --merge-only --no-html --empty skip --lines 75 jobs/*.info
@@ -45,7 +45,7 @@ load projects
     printf 'SF:/a.c\nDA:1,1\nCOUNT\nLF:7\nend_of_record\n' >jobs/page.info
     call ci/ci.sh --merge-only --no-html jobs/*.info
     ended 5 'ci.sh: a tracefile with odd and skipped lines'
-    says "$work/err" 'ci.sh: what it holds' 'jobs/page.info: sections 1 items 1 odd 1 skipped 1 first COUNT at 3'
+    says "$work/err" 'ci.sh: how many' "jobs/page.info: 2 lines don't fit: wrong totals, counts of functions that start nowhere, or unknown keys"
     call ci/ci.sh --merge-only --no-html --empty skip jobs/*.info
     ended 0 'ci.sh: which --empty skip takes'
     says coverage/all.info 'ci.sh: with its counts' 'SF:/a.c' 'DA:1,1'

@@ -88,15 +88,15 @@ for i in range(3):
 END
 }
 
-# A covcollect without --lcov2, --strict, --large and --fail-under-lines, as it was before: for recipes that ask it.
+# A covcollect without --lcov2, --strict, --large, --fail-under-lines and combine, as it was before: for recipes that ask it.
 old_program() { # FILE
     cat >"$1" <<END
 #!/bin/bash
 for word; do
     [ "\$word" != -- ] || break
-    case \$word in --lcov2 | --strict | --large | --fail-under-*) echo "old: no \$word" >&2; exit 2 ;; esac
+    case \$word in --lcov2 | --strict | --large | --fail-under-* | combine) echo "old: no \$word" >&2; exit 2 ;; esac
 done
-[[ " \$* " != *' --help '* ]] || exec grep -v -e --lcov2 -e --strict -e --large -e --fail-under <("$COVCOLLECT" "\$@")
+[[ " \$* " != *' --help '* ]] || exec grep -v -e --lcov2 -e --strict -e --large -e --fail-under -e combine <("$COVCOLLECT" "\$@")
 exec "$COVCOLLECT" "\$@"
 END
     chmod +x "$1"

@@ -41,10 +41,10 @@ lines() { # HIT FOUND PATH
     says "$work/err" 'ci.sh: and it says so' 'lines: 0 of 0 is below 0%'
     holds 'ci.sh: the program was asked for each summary, and for each threshold before' [ "$(grep -c '^summary .*--fail-under-lines=' asked)" -eq 8 ]
     # The jobs' files are merged as they are.
-    holds 'ci.sh: by one strict call each time' [ "$(grep -cE '^merge --large -o [^ ]*/all\.info --lcov2 --strict --jobs 4 -- a\.info( b\.info)?$' asked)" -eq 4 ]
+    holds 'ci.sh: by one strict call each time' [ "$(grep -cE '^combine -o [^ ]*/all\.info --strict --quiet --jobs 4 -- a\.info( b\.info)?$' asked)" -eq 4 ]
     call env COVCOLLECT="$PWD/old" "$recipes/ci.sh" "${words[@]}" a.info b.info
-    ended 2 'ci.sh: a covcollect without --strict'
-    says "$work/err" 'ci.sh: is told' "ci.sh: $PWD/old has no --strict, so it is older than ci.sh"
+    ended 2 'ci.sh: a covcollect without combine'
+    says "$work/err" 'ci.sh: is told' "ci.sh: $PWD/old has no combine, so it is older than ci.sh"
 }
 
 # README's quick start, in the file script: its first argument is the threshold, and the merge gets the others.

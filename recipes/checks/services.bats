@@ -44,6 +44,21 @@ messages() {
     printf 'src/a.c:3:1: error: expected expression\n' >>messages
     # As the collector tells it.
     printf 'job: 1.info: clash /s/a.c 1 abc abd\n' >>messages
+    # As combine tells it.
+    : >empty.info
+    gzip -nc held.info >held.gz
+    call "$COVCOLLECT" combine -j 1 --expect 9 held.info 'jobs of today/line.info' cut.info given.info none.info page.info empty.info held.gz odd.info
+    cat "$work/err" >>messages
+    call "$COVCOLLECT" combine --strict --path /x=/y --exclude '/usr/*' clean.info
+    cat "$work/err" >>messages
+    call "$COVCOLLECT" combine --strict odd.info skipped.info
+    cat "$work/err" >>messages
+    call "$COVCOLLECT" combine --path /x=/y -o none/all.info clean.info
+    cat "$work/err" >>messages
+    call "$COVCOLLECT" combine clean.info clean.info
+    cat "$work/err" >>messages
+    call "$COVCOLLECT" combine clean.info ./clean.info
+    cat "$work/err" >>messages
 }
 
 # As GitHub's runner does: each line of the log is tried with each matcher.
@@ -54,7 +69,7 @@ const matchers = JSON.parse(fs.readFileSync(process.argv[2], "utf8")).problemMat
 if (new Set(matchers.map(m => m.owner)).size !== matchers.length) throw new Error("two matchers have one owner");
 for (const line of fs.readFileSync(process.argv[3], "utf8").split("\n"))
     for (const m of matchers) {
-        if (m.pattern.length !== 1 || m.severity !== "error") throw new Error("not what this check can play");
+        if (m.pattern.length !== 1 || m.severity !== (/^covcollect-combine-(odd|warning)$/.test(m.owner) ? "warning" : "error")) throw new Error("not what this check can play");
         const p = m.pattern[0], found = new RegExp(p.regexp).exec(line);
         if (found) console.log([m.owner, p.file ? found[p.file] : "-", p.line ? found[p.line] : "-", found[p.message]].join("\t"));
     }
@@ -103,6 +118,23 @@ covcollect-file	none/all.info	-	can't write
 covcollect-threshold	-	-	lines: 1 of 3 is below 66.7%
 covcollect-empty	page.info	-	sections 0 items 0 odd 0 skipped 1 first <html> at 1
 covcollect-clash	/s/a.c	1	clash /s/a.c 1 abc abd
+covcollect-combine-odd	odd.info	-	warning: 1 line doesn't fit: wrong totals, or counts of functions that start nowhere
+covcollect-combine-line	jobs of today/line.info	3	the fields don't fit the line's key: was the file cut here?
+covcollect-combine-file	cut.info	-	ends within a section: was its writer killed, or a disk full?
+covcollect-combine-file	none.info	-	can't be read
+covcollect-combine-file	page.info	-	no record (begins with "<html>")
+covcollect-combine-file	empty.info	-	empty
+covcollect-combine-file	held.gz	-	packed by gzip (unpack it first, or name it as <(zcat 'held.gz'))
+covcollect-combine-line	/src 2/a: b.c	12	checksum mNhTZqCv3dQxJmVtQXnU7w, but lZ8bZ6bGGr4EkvEwDDpwWQ in an earlier record: two versions of the source?
+covcollect-combine-call	-	-	expected 9 files, but read 3
+covcollect-combine-call	-	-	--path /x=/y: applies to no source file
+covcollect-combine-call	-	-	--exclude /usr/*: matches no source file
+covcollect-combine-file	odd.info	-	1 line doesn't fit: wrong totals, counts of functions that start nowhere, or unknown keys
+covcollect-combine-file	skipped.info	-	2 lines don't fit: wrong totals, counts of functions that start nowhere, or unknown keys
+covcollect-combine-warning	-	-	warning: --path /x=/y: applies to no source file
+covcollect-combine-file	none/all.info	-	can't be written
+covcollect-combine-file	clean.info	-	named twice
+covcollect-combine-file	./clean.info	-	the same file as clean.info
 END
     call node match.js "$recipes/github-problem-matcher.json" messages
     ended 0 'github-problem-matcher.json: is JSON with expressions that JavaScript takes'
