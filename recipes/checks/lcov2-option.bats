@@ -289,7 +289,7 @@ END
     releases lcov 'LCOV 2'
     # README's quick start, on the files of the folder jobs.
     quick_start | sed 's/80/40/' >script
-    holds 'README: its script has three commands' [ "$(sed 's/ -.*//' script | tr '\n' ,)" = 'covcollect merge,covcollect summary,covcollect html,' ]
+    holds 'README: its script has two commands' [ "$(sed 's/ -.*//' script | tr '\n' ,)" = 'covcollect combine,covcollect html,' ]
     mkdir tools
     ln -s "$COVCOLLECT" tools/covcollect
     for release in "${found[@]}"; do
@@ -315,13 +315,12 @@ END
             ended 0 "MIGRATING: $version with its option: $words"
         done
     done
-    # That of 1.16 ignores the option.
     never_called one
     mkdir one/jobs
     (cd one && make -s check && geninfo --quiet --rc lcov_branch_coverage=1 --test-name t --output-filename jobs/t.info .) >"$work/log" 2>&1
     call env -C one PATH="$PWD/tools:$PATH" bash -e "$PWD/script"
-    ended 0 'README: its script, with genhtml 1.16'
-    holds 'README: its script: a page of the source by 1.16' grep -rq 'auto never' one/html --include='never.cpp.gcov.html'
+    ended 0 'README: its script, with a tracefile of LCOV 1.16'
+    holds 'README: its script: a page of the source of LCOV 1.16' grep -rq 'auto never' one/html --include='file-*never.cpp.html'
 }
 
 @test "checksums and versions of sources" {

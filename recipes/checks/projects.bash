@@ -28,7 +28,7 @@ END
 }
 
 # The commands of README.md's quick start, without their indent.
-quick_start() { sed -n '/^    covcollect merge/,$p' "$recipes/../README.md" | sed '/^$/,$d; s/^    //'; }
+quick_start() { sed -n '/^    covcollect combine/,$p' "$recipes/../README.md" | sed '/^$/,$d; s/^    //'; }
 
 # tiny.c: twice is called 3 times, never not at all, main once. Lines 2, 6, 10 and 12 are run 3, 0, 1 and 3 times.
 # half.cpp: half of int is called 3 times (4, 6, -1), half of double once; it throws once and returns 3 times. Line 16 is run once,

@@ -47,16 +47,16 @@ lines() { # HIT FOUND PATH
     says "$work/err" 'ci.sh: is told' "ci.sh: $PWD/old has no combine, so it is older than ci.sh"
 }
 
-# README's quick start, in the file script: its first argument is the threshold, and the merge gets the others.
+# README's quick start, in the file script: its first argument is the threshold, and combine gets the others.
 readme_script() {
     mkdir -p tools
     ln -sf "$COVCOLLECT" tools/covcollect
-    { echo 'set -e'; quick_start | sed '/^covcollect merge/s/$/ "${@:2}"/; s/80/"$1"/'; } >script
+    { echo 'set -e'; quick_start | sed '/^covcollect combine/s/$/ "${@:2}"/; s/80/"$1"/'; } >script
 }
 script() { call env PATH="$PWD/tools:$PATH" bash script "$@"; } # THRESHOLD OPTION...
-# An option of the merge that README names below the quick start, with its value: a line for each argument.
+# An option of combine that README names below the quick start, with its value: a line for each argument.
 readme_option() { # NAME
-    sed -n "s/.*\`\(merge \)\{0,1\}\($1\( '[^']*'\)\{0,1\}\)\`.*/\2/p" "$recipes/../README.md" | head -n 1 | xargs -n 1
+    sed -n "s/.*\`\($1\( '[^']*'\)\{0,1\}\)\`.*/\1/p" "$recipes/../README.md" | head -n 1 | xargs -n 1
 }
 
 @test "the script of README.md" {
@@ -67,8 +67,8 @@ readme_option() { # NAME
     readme_script
     mapfile -t strict < <(readme_option --strict)
     mapfile -t exclude < <(readme_option --exclude)
-    holds 'README: three commands, of which one merges, one asks for the threshold and one makes pages' \
-        [ "$(grep -c '"\$1"' script) $(sed '1d; s/ -.*//' script | tr '\n' ,)" = '1 covcollect merge,covcollect summary,covcollect html,' ]
+    holds 'README: two commands, of which one merges and asks for the threshold, and one makes pages' \
+        [ "$(grep -c '"\$1"' script) $(sed '1d; s/ -.*//' script | tr '\n' ,)" = '1 covcollect combine,covcollect html,' ]
     holds 'README: and two options' [ "${strict[*]} ${exclude[*]}" = '--strict --exclude /usr/*' ]
     # By hand: 8 of 10 lines, 0 of 1 functions, 1 of 2 branches.
     cat >wanted <<'END'
@@ -98,18 +98,15 @@ END
     same before.info all.info 'README: which changes nothing'
     printf 'SF:/src/a.c\nDA:1,1\n' >jobs/4.info
     script 80
-    told_alone 4 'README: a file that was cut off has its own status' 'jobs/4.info: refused OpenEnd'
+    told_alone 4 'README: a file that was cut off has its own status' 'jobs/4.info: ends within a section: was its writer killed, or a disk full?'
     same before.info all.info 'README: and all.info is as it was'
     echo '<html>' >jobs/4.info
-    script 80 "${strict[@]}"
-    told_alone 5 'README: with --strict so has an error page' 'jobs/4.info: sections 0 items 0 odd 0 skipped 1 first <html> at 1'
-    same before.info all.info 'README: and all.info is still as it was'
     script 80
-    ended 0 'README: without it an error page counts as empty'
-    same before.info all.info 'README: which changes nothing'
+    told_alone 5 'README: so has an error page' 'jobs/4.info: no record (begins with "<html>")'
+    same before.info all.info 'README: and all.info is still as it was'
     printf 'SF:/src/a.c\nDA:1,1\nLF:2\nend_of_record\n' >jobs/4.info
     script 80 "${strict[@]}"
-    told_alone 5 'README: with --strict so has an inconsistent file' 'jobs/4.info: sections 1 items 1 odd 1 skipped 0'
+    told_alone 5 'README: with --strict so has an inconsistent file' 'jobs/4.info: 1 line doesn'\''t fit: wrong totals, counts of functions that start nowhere, or unknown keys'
     same before.info all.info 'README: and all.info is as it was then'
     rm jobs/4.info
     # 8 of 14 lines.
@@ -125,7 +122,7 @@ END
     same before.info all.info 'README: which changes nothing'
     rm jobs/3.info
     script 80 "${exclude[@]}" "${strict[@]}"
-    told_alone 5 'README: with --strict so has a pattern that matches nothing' '/usr/*: matches no file'
+    told_alone 5 'README: with --strict so has a pattern that matches nothing' '--exclude /usr/*: matches no source file'
     same before.info all.info 'README: and all.info is still as it was then'
     # 70 sources of a function each, with a name of 1,000,000 bytes.
     # mawk has no room for such a name.
