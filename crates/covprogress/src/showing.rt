@@ -17,10 +17,7 @@ const PAUSE: u64 = 200;
 pub(crate) fn started<
     R: Clock + Threads + Wait + AllocGlobal + Copy + Drop + Send + 'static,
     T: Write + Copy + Drop + Send + 'static,
->(
-    rt: R,
-    terminal: T,
-) -> Option<Arc<Counts, Global>> {
+>(rt: R, terminal: T) -> Option<Arc<Counts, Global>> {
     let counts = Arc::new(rt.alloc(), Counts::new()).ok()?;
     let shared = Arc::try_clone(&counts).ok()?;
     match thread::spawn(&rt, move || show(rt, terminal, shared)) {
