@@ -306,14 +306,14 @@ tells() { # WHAT [LINE]...
 }
 
 @test "source files are chosen" {
-    local words
-    for words in '--exclude /usr/*' '--include /repo/*' '--include *.[ch] --exclude *.h'; do
-        read -ra words <<<"$words"
+    local line words
+    for line in '--exclude /usr/*' '--include /repo/*' '--include *.[ch] --exclude *.h'; do
+        read -ra words <<<"$line"
         rm -rf jobs
         begin
         call "${day[@]}" "${words[@]}" jobs/*.info
-        ended 0 "combine: ${words[*]}"
-        is_written "combine: ${words[*]}" own own-summary
+        ended 0 "combine: $line"
+        is_written "combine: $line" own own-summary
     done
     day_before
     call "${day[@]}" --strict --exclude '/build/*' jobs/*.info
