@@ -11,7 +11,7 @@
 #
 # The last job needs covcollect, genhtml (or --no-html), and a checkout in a folder of the same name, since tracefiles have absolute paths;
 # it needs no compiler. --remove belongs to its call: all.info has every source. If one of the jobs never ran, no other tracefile shows it:
-# start the last job only after all of them, or name each file, of which none may be missing.
+# start the last job only after all of them, or name each file, of which none may be missing, or say how many there are (--expect).
 #
 # ci.sh [OPTION]... [TRACEFILE]...
 #
@@ -19,6 +19,7 @@
 #     --empty skip       a tracefile without a record is reported and skipped, and one with inconsistent or skipped lines is reported and
 #                        merged (default: fail, by covcollect combine --strict: where there is one that is packed, has no record, or has
 #                        such lines, its job went wrong)
+#     --expect N         with --merge-only: fail unless N tracefiles are named and read
 #     --lines PERCENT    fail if fewer lines are hit, for example 80 or 79.95, as covcollect's --fail-under-lines
 #     --remove PATTERN   leave out source files that match; can be repeated (default: '/usr/*')
 #     --test-name NAME   the test name in the tracefile (default: unit)
@@ -46,8 +47,8 @@
 #
 # Exit status: 0 done; 1 the tests wrote no counts, or a tracefile isn't there or can't be read; 2 wrong call, a program is missing, or
 # a tracefile is named twice, also by two names; 3 no memory; 4 a tracefile is refused, or checksums clash; 5 a tracefile is packed, or has
-# no record, or inconsistent or skipped lines; 6 too few lines are hit (the results are written); otherwise the status of the command that
-# failed.
+# no record, or inconsistent or skipped lines, or there aren't as many as expected; 6 too few lines are hit (the results are written);
+# otherwise the status of the command that failed.
 set -euo pipefail
 
 say() { printf 'ci.sh: %s\n' "$*" >&2; }
@@ -68,10 +69,11 @@ jobs=4
 html=yes
 capture=yes
 empty=fail
+expect=()
 handed=()
 while [ $# -gt 0 ]; do
     case ${1%%=*} in
-        --lines|--remove|--test-name|--output|--jobs|--empty)
+        --lines|--remove|--test-name|--output|--jobs|--empty|--expect)
             [[ $1 != *=* ]] || set -- "${1%%=*}" "${1#*=}" "${@:2}"
             [ $# -gt 1 ] || wrong "$1 needs a value" ;;
     esac
@@ -84,6 +86,7 @@ while [ $# -gt 0 ]; do
         --no-html) html=no ;;
         --merge-only) capture=no ;;
         --empty) empty=$2; shift ;;
+        --expect) expect=(--expect "$2"); shift ;;
         --help) sed -n '2,/^set /{/^#/s/^# \{0,1\}//p}' "$0"; exit 0 ;;
         --) shift; handed+=("$@"); break ;;
         -*) wrong "unknown option $1, see ci.sh --help" ;;
@@ -96,6 +99,10 @@ case $empty in fail|skip) ;; *) wrong "--empty: $empty is neither fail nor skip"
 [ -n "$output" ] || wrong '--output: the name is empty'
 [[ $jobs =~ ^0*([1-9]|[1-5][0-9]|6[0-4])$ ]] || wrong "--jobs: $jobs isn't a number from 1 to 64"
 [ $capture = yes ] || [ ${#handed[@]} -gt 0 ] || wrong '--merge-only needs tracefiles'
+if [ ${#expect[@]} -gt 0 ]; then
+    [ $capture:$empty = no:fail ] || wrong '--expect goes with --merge-only, and not with --empty skip'
+    [[ ${expect[1]} =~ ^[1-9][0-9]{0,5}$ ]] || wrong "--expect: ${expect[1]} isn't a number from 1 to 999999"
+fi
 here=$(cd "$(dirname "${BASH_SOURCE[0]}")" && pwd)
 program=${COVCOLLECT-covcollect}
 command -v "$program" >/dev/null || wrong "$program isn't there"
@@ -156,7 +163,7 @@ collect() { # FILE SUBCOMMAND WORDS...: runs covcollect, which writes FILE
     case $status in
         0) ;;
         4) say "covcollect $command: a tracefile is refused or checksums clash, see above; $output is unchanged"; exit 4 ;;
-        5) say "a tracefile has no record, or lines that don't fit, see above (or use --empty skip); $output is unchanged"; exit 5 ;;
+        5) say "a tracefile is missing, has no record, or lines that don't fit, see above (or use --empty skip); $output is unchanged"; exit 5 ;;
         6) short=yes ;;
         *) say "covcollect $command failed with status $status; $output is unchanged"; exit $status ;;
     esac
@@ -208,7 +215,7 @@ fi
 # 3. Tracefiles of other jobs are merged as they are, by combine. With --empty skip, intake looks at each, and copies are merged.
 merge=(merge --lcov2 --large)
 if [ ${#handed[@]} -gt 0 ] && [ $empty = fail ]; then
-    merge=(combine --strict --quiet)
+    merge=(combine --strict --quiet "${expect[@]}")
     files+=("${handed[@]}")
 elif [ ${#handed[@]} -gt 0 ]; then
     status=0

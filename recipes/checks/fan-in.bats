@@ -27,15 +27,18 @@ load projects
     holds 'ci.sh --merge-only: genhtml made a page of the source' grep -rq 'int.* never' coverage/html --include=twice.c.gcov.html
     holds "ci.sh --merge-only: own.info lacks the system's header, and all.info has it" \
         [ "$(grep -c '^SF:/usr' coverage/all.info):$(grep -c '^SF:/usr' coverage/own.info)" = 1:0 ]
-    call ci/ci.sh --merge-only --no-html --lines 75.1 jobs/*.info
+    call ci/ci.sh --merge-only --no-html --lines 75.1 --expect 3 jobs/*.info
     ended 6 'ci.sh --merge-only: 3 of 4 lines are less than 75.1%'
     cp -r coverage ../before
+    call ci/ci.sh --merge-only --no-html --expect=4 jobs/*.info
+    ended 5 'ci.sh --merge-only: one of four tracefiles is missing'
+    says "$work/err" 'ci.sh --merge-only: as it says' 'expected 4 files, but read 3'
 
     # What jobs hand over by mistake.
     printf '<!DOCTYPE html>\n<html>404</html>\n' >jobs/page.info
     call ci/ci.sh --merge-only --no-html jobs/*.info
     ended 5 'ci.sh: status 5 for a tracefile without a record'
-    says "$work/err" 'ci.sh: and what to do' "ci.sh: a tracefile has no record, or lines that don't fit, see above (or use --empty skip); coverage is unchanged"
+    says "$work/err" 'ci.sh: and what to do' "ci.sh: a tracefile is missing, has no record, or lines that don't fit, see above (or use --empty skip); coverage is unchanged"
     says "$work/err" 'ci.sh: with the name of the file and its first line' 'jobs/page.info: no record (begins with "<!DOCTYPE html>")'
     call diff -r ../before coverage
     ended 0 'ci.sh: the results are as they were'

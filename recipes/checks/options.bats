@@ -39,6 +39,10 @@ form() { # RECIPE OPTION FLAG: an option with a value, and one without
     refused ci.sh '--output: the name is empty' --output= a.info
     refused ci.sh "--jobs: 0 isn't a number from 1 to 64" --jobs=0
     refused ci.sh "--jobs: 65 isn't a number from 1 to 64" --jobs 65
+    refused ci.sh "--expect: 0 isn't a number from 1 to 999999" --merge-only --expect=0 a.info
+    refused ci.sh "--expect: 0x2 isn't a number from 1 to 999999" --merge-only --expect 0x2 a.info
+    refused ci.sh '--expect goes with --merge-only, and not with --empty skip' --expect 2
+    refused ci.sh '--expect goes with --merge-only, and not with --empty skip' --merge-only --expect 2 --empty skip a.info
 }
 
 @test "changed-lines" {
