@@ -436,7 +436,7 @@ tells() { # WHAT [LINE]...
         for number in 1 2 8; do
             daemon "${day[@]}" -j $number jobs/*.info >"$work/out" 2>"$work/err"
             pid=${daemons[-1]}
-            holds "combine: reads half a file from a pipe, -j $number" timeout 30 bash -c 'exec 9>jobs/250.info; cat half >&9; kill "-$1" "$2"' - $signal "$pid"
+            holds "combine: reads half a file from a pipe, -j $number" timeout 10 bash -c 'exec 9>jobs/250.info; cat half >&9; kill "-$1" "$2"' - $signal "$pid"
             status=0
             wait "$pid" || status=$?
             ended $((128 + $(kill -l $signal))) "combine: is killed by SIG$signal, -j $number"
@@ -445,7 +445,7 @@ tells() { # WHAT [LINE]...
         done
     done
     daemon bash -c 'cat "$1" >jobs/250.info' - "$BATS_FILE_TMPDIR/jobs/250.info"
-    call timeout 30 "${day[@]}" jobs/*.info
+    call timeout 10 "${day[@]}" jobs/*.info
     writes 0 'combine: reads a whole file from the pipe'
     # At any moment.
     rm jobs/250.info
