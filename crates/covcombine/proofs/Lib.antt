@@ -3,8 +3,11 @@ pub mod Counting
 pub mod Opening
 pub mod Stages
 pub mod Files
-pub mod Taken
 pub mod Twice
+pub mod Taken
+pub mod Apart
+pub mod Cuts
+pub mod Listing
 pub mod Endings
 pub mod Reports
 pub mod Lines

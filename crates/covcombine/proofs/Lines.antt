@@ -44,6 +44,9 @@ ended_four a b c d end = simp append_assoc
 pub ended_five : (a b c d e end : List ℕ) → a ++ (b ++ (c ++ (d ++ (e ++ end)))) ≡ (a ++ (b ++ (c ++ (d ++ e)))) ++ end
 ended_five a b c d e end = simp append_assoc
 
+pub ended_six : (a b c d e f end : List ℕ) → a ++ (b ++ (c ++ (d ++ (e ++ (f ++ end))))) ≡ (a ++ (b ++ (c ++ (d ++ (e ++ f))))) ++ end
+ended_six a b c d e f end = simp append_assoc
+
 -- a name in front of the words
 pub named_words : (name colon a w z end : List ℕ) → (name ++ colon) ++ (a ++ (w ++ (z ++ end))) ≡ (name ++ (colon ++ (a ++ (w ++ z)))) ++ end
 named_words name colon a w z end = simp append_assoc

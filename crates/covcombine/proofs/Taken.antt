@@ -1,8 +1,9 @@
 -- Options are checked one after another: all of them do, or one of them doesn't.
-use Rattle.std.proofs.Common.{◌≡◌, ◌==◌, ℕ, true, false, true≢false, zero, suc, ◌<◌, ◌≤◌, List, [], ◌∷◌, ◌++◌, length, map, take, get_or, Option, Some, None, Result, Err, refl, sym, ap, subst, ◌∙◌, arith}
+use Rattle.std.proofs.Common.{◌≡◌, ◌==◌, inl, inr, ⊎_elim, ℕ, true, false, true≢false, zero, suc, ◌+◌, ◌<◌, ◌≤◌, List, [], ◌∷◌, ◌++◌, length, map, take, drop, get_or, Option, Some, None, Result, Err, refl, sym, ap, subst, ◌∙◌, arith}
 use Rattle.std.proofs.lemmas.Bool.{eqb-true}
-use Rattle.std.proofs.lemmas.List.{length-map, length-take-le}
+use Rattle.std.proofs.lemmas.List.{length-map, length-take-le, map_push}
 use Rattle.std.specs.List.{AllByRecursion}
+use Rattle.std.specs.Option.{is_some, unwrap_or}
 use Rattle.std.specs.Prelude.{Contains, IfSome}
 use Rattle.covcommand.specs.declared.asked.CombineOptions.{CombineOptions}
 use Rattle.covcommand.specs.declared.asked.Limits.{Limits}
@@ -12,18 +13,24 @@ use Rattle.covcommand.specs.declared.asked.SourceFilter.{SourceFilter}
 use Rattle.covcommand.specs.declared.asked.TotalsForm.{TotalsForm}
 use Rattle.covcommand.specs.declared.asked.TotalsForm.TheVariants as forms
 use Rattle.covlimit.specs.Rates.{IsRate}
+use Rattle.covpaths.specs.Names.{AreGoodNames, IsGoodTestIfAny, NamesData}
+use Rattle.covpaths.specs.Paths.{IsGoodRule, IsRuleFault, RuleData, rule_of}
+use Rattle.covpaths.specs.declared.rule.RuleFault.{RuleFault}
+use Rattle.covpaths.specs.declared.rule.RuleFault.TheVariants as faults
 use Rattle.covreport.specs.Choice.{AllFiles, Filtered, max_pattern_bytes, max_patterns}
 use Rattle.covreport.specs.declared.patterns.PatternFault.{PatternFault}
 use Rattle.covreport.specs.declared.patterns.PatternFault.TheVariants as patterns
-use Rattle.covtable.proofs.Members.{All-in, In-from}
-use Rattle.covcombine.specs.Options.{IsCallFault, choice_by, limit_in, patterns_in}
-use Rattle.covcombine.specs.Steps.{AreNames, ArePatterns, HasRoom, IsNameFault, IsPatternFault, IsRateFault, IsWorkFault, of_pattern}
+use Rattle.covtable.proofs.Members.{All-in, All-joined, In, In-from}
+use Rattle.covworld.specs.Folder.{FolderData}
+use Rattle.covcombine.specs.Options.{AreRulesOf, IsCallFault, IsOneFile, choice_by, limit_in, patterns_in}
+use Rattle.covcombine.specs.Steps.{AreNames, ArePatterns, HasRoom, IsNameFault, IsNewNameFault, IsOneFileFault, IsPatternFault, IsRateFault, IsRoomFault, IsTestFault, IsWordFault, IsWorkFault, of_pattern}
 use Rattle.covcombine.specs.declared.call_fault.CallFault.{CallFault}
-use Rattle.covcombine.specs.declared.call_fault.CallFault.TheVariants.{ManyPatterns, LongPattern, NoRate, NoRoom, NoName, Twice}
+use Rattle.covcombine.specs.declared.call_fault.CallFault.TheVariants.{ManyPatterns, LongPattern, NoRate, BadPath, BadTest, NoRoom, NoName, Twice, OneFile, UnreadList, LongList, NotText}
 use Rattle.covcombine.specs.declared.call_fault.CallOption.{CallOption}
 use Rattle.covcombine.specs.declared.call_fault.CallOption.TheVariants.{Include, Exclude, FailUnderLines, FailUnderFunctions, FailUnderBranches, List as ShowList, Json as PrintJson}
 use Rattle.covcombine.specs.declared.call_fault.WorkFault.{WorkFault}
 use Rattle.covcombine.specs.declared.call_fault.WorkFault.TheVariants as works
+use Rattle.covcombine.proofs.Twice.{one_more as one_word_more}
 
 apart : (n most : ℕ) → n ≤ most → most < n → ⊥
 apart n most few many = omega (arith, few, many)
@@ -82,17 +89,53 @@ none_long : (most : ℕ) (patterns : List (List ℕ)) (pattern : List ℕ) → A
 none_long most patterns pattern all within long =
     apart (length pattern) most (All-in (λ (p : List ℕ). length p ≤ most) patterns pattern all (In-from patterns pattern within)) long
 
--- patterns, thresholds, the overview and names do, so no option is at fault
-pub faultless : (options : CombineOptions) (file : Option (List ℕ)) → ((option : CallOption) → ArePatterns (patterns_in option options.filter))
-    → ((option : CallOption) → IfSome (limit_in option options.limits) IsRate) → HasRoom options file → AreNames options.names
-    → (fault : CallFault) → IsCallFault options file fault → ⊥
-faultless options file taken rates room names (ManyPatterns option) many = apart (length (patterns_in option options.filter)) max_patterns (taken option).0 many
-faultless options file taken rates room names (LongPattern option) (pattern, within, long) =
+-- a word of `--path` gives a rule that can be used
+rule_there : (words : List (List ℕ)) (rules : List RuleData) → AreRulesOf words rules → AllByRecursion IsGoodRule rules → (word : List ℕ) → In word words
+    → (rule : RuleData) × (rule_of word ≡ Some rule) × IsGoodRule rule
+rule_there [] rules are good word none = absurd none
+rule_there (w ∷ words) [] are good word within = absurd (omega (arith, ap (λ (rs : List (Option RuleData)). length rs) are))
+rule_there (w ∷ words) (rule ∷ rules) are good word (inl same) =
+    (rule, subst (λ (x : List ℕ). rule_of x ≡ Some rule) same (ap (λ (rs : List (Option RuleData)). get_or rs 0 None) are), good.0)
+rule_there (w ∷ words) (rule ∷ rules) are good word (inr more) = rule_there words rules (ap (λ (rs : List (Option RuleData)). drop 1 rs) are) good.1 word more
+
+same_rule : (word : List ℕ) (rule told : RuleData) → rule_of word ≡ Some rule → rule_of word ≡ Some told → rule ≡ told
+same_rule word rule told is told_is = ap (λ (r : Option RuleData). unwrap_or r rule) (sym is ∙ told_is)
+
+some_rule : (rule : RuleData) → (let none : Option RuleData = None in Some rule ≡ none) → ⊥
+some_rule rule e = true≢false (ap (λ (r : Option RuleData). is_some r) e)
+
+no_rule_fault : (word : List ℕ) (rule : RuleData) → rule_of word ≡ Some rule → IsGoodRule rule → (fault : RuleFault) → IsRuleFault word fault → ⊥
+no_rule_fault word rule is good faults.NoSign none = some_rule rule (sym is ∙ none)
+no_rule_fault word rule is good faults.NoOld (told, told_is, none) =
+    let can = subst (λ (r : RuleData). IsGoodRule r) (same_rule word rule told is told_is) good in
+    omega (arith, can.some, ap (λ (t : List ℕ). length t) none)
+no_rule_fault word rule is good faults.BadNew (told, told_is, bad) =
+    let can = subst (λ (r : RuleData). IsGoodRule r) (same_rule word rule told is told_is) good in
+    bad can.fits
+no_rule_fault word rule is good faults.Slashes (told, told_is, some, differ) =
+    let can = subst (λ (r : RuleData). IsGoodRule r) (same_rule word rule told is told_is) good in
+    ⊎_elim some differ can.slashes
+
+-- patterns, thresholds, the overview, names, the test and paths do, so nothing is at fault unless two names are of one file
+pub faultless : (folder : FolderData) (options : CombineOptions) (names : List (List ℕ)) (file : Option (List ℕ))
+    → ((option : CallOption) → ArePatterns (patterns_in option options.filter)) → ((option : CallOption) → IfSome (limit_in option options.limits) IsRate) → HasRoom options file
+    → AreNames names → (rules : List RuleData) → AreRulesOf options.paths rules → AllByRecursion IsGoodRule rules → IsGoodTestIfAny options.test
+    → (fault : CallFault) → IsCallFault folder options names file fault → IsOneFile fault
+faultless folder options names file taken rates room named rules are good test (ManyPatterns option) many = apart (length (patterns_in option options.filter)) max_patterns (taken option).0 many
+faultless folder options names file taken rates room named rules are good test (LongPattern option) (pattern, within, long) =
     none_long max_pattern_bytes (patterns_in option options.filter) pattern (taken option).1 within long
-faultless options file taken rates room names (NoRate option word) (is, none) = none (subst (λ (w : Option (List ℕ)). IfSome w IsRate) is (rates option))
-faultless options file taken rates room names (NoRoom option) (none, asks) = room option none asks
-faultless options file taken rates room names NoName none = names.0 none
-faultless options file taken rates room names (Twice name) twice = names.1 name.now twice
+faultless folder options names file taken rates room named rules are good test (NoRate option word) (is, none) = none (subst (λ (w : Option (List ℕ)). IfSome w IsRate) is (rates option))
+faultless folder options names file taken rates room named rules are good test (BadPath fault word) (within, bad) =
+    let (rule, is, can) = rule_there options.paths rules are good word.now (In-from options.paths word.now within) in
+    no_rule_fault word.now rule is can fault bad
+faultless folder options names file taken rates room named rules are good test (BadTest told) (is, bad) = bad (subst (λ (t : Option (List ℕ)). IsGoodTestIfAny t) is test)
+faultless folder options names file taken rates room named rules are good test (NoRoom option) (none, asks) = room option none asks
+faultless folder options names file taken rates room named rules are good test NoName none = named.0 none
+faultless folder options names file taken rates room named rules are good test (Twice name) twice = named.1 name.now twice
+faultless folder options names file taken rates room named rules are good test (OneFile first second) one = tt
+faultless folder options names file taken rates room named rules are good test (UnreadList list) none = none
+faultless folder options names file taken rates room named rules are good test (LongList list) none = none
+faultless folder options names file taken rates room named rules are good test (NotText list number) none = none
 
 -- ---- an option doesn't do
 
@@ -100,39 +143,137 @@ faultless options file taken rates room names (Twice name) twice = names.1 name.
 pub of_words : (option : CallOption) (looked words : List (List ℕ)) (fault : WorkFault) → looked ≡ words → IsPatternFault option looked fault → IsPatternFault option words fault
 of_words option looked words fault same is = subst (λ (ps : List (List ℕ)). IsPatternFault option ps fault) same is
 
-pub of_names : (looked names : List (List ℕ)) (fault : WorkFault) → looked ≡ names → IsNameFault looked fault → IsNameFault names fault
-of_names looked names fault same is = subst (λ (ns : List (List ℕ)). IsNameFault ns fault) same is
-
-pub pattern_refused : (options : CombineOptions) (file : Option (List ℕ)) (option : CallOption) (fault : WorkFault)
-    → IsPatternFault option (patterns_in option options.filter) fault → IsWorkFault options file fault
-pattern_refused options file option (works.Call (ManyPatterns same)) (is, many) = subst (λ (o : CallOption). max_patterns < length (patterns_in o options.filter)) (sym is) many
-pattern_refused options file option (works.Call (LongPattern same)) (is, pattern, within, long) =
+pub pattern_refused : (folder : FolderData) (options : CombineOptions) (names : List (List ℕ)) (file : Option (List ℕ)) (option : CallOption) (fault : WorkFault)
+    → IsPatternFault option (patterns_in option options.filter) fault → IsWorkFault folder options names file fault
+pattern_refused folder options names file option (works.Call (ManyPatterns same)) (is, many) =
+    subst (λ (o : CallOption). max_patterns < length (patterns_in o options.filter)) (sym is) many
+pattern_refused folder options names file option (works.Call (LongPattern same)) (is, pattern, within, long) =
     (pattern, subst (λ (o : CallOption). Contains (patterns_in o options.filter) pattern) (sym is) within, long)
-pattern_refused options file option (works.Call (NoRate other word)) none = absurd none
-pattern_refused options file option (works.Call (NoRoom other)) none = absurd none
-pattern_refused options file option (works.Call NoName) none = absurd none
-pattern_refused options file option (works.Call (Twice name)) none = absurd none
-pattern_refused options file option works.Memory none = tt
+pattern_refused folder options names file option (works.Call (NoRate other word)) none = absurd none
+pattern_refused folder options names file option (works.Call (BadPath why word)) none = absurd none
+pattern_refused folder options names file option (works.Call (BadTest test)) none = absurd none
+pattern_refused folder options names file option (works.Call (NoRoom other)) none = absurd none
+pattern_refused folder options names file option (works.Call NoName) none = absurd none
+pattern_refused folder options names file option (works.Call (Twice name)) none = absurd none
+pattern_refused folder options names file option (works.Call (OneFile first second)) none = absurd none
+pattern_refused folder options names file option (works.Call (UnreadList list)) none = absurd none
+pattern_refused folder options names file option (works.Call (LongList list)) none = absurd none
+pattern_refused folder options names file option (works.Call (NotText list number)) none = absurd none
+pattern_refused folder options names file option works.Memory none = tt
 
-pub rate_refused : (options : CombineOptions) (file : Option (List ℕ)) (option : CallOption) (fault : WorkFault)
-    → IsRateFault option (limit_in option options.limits) fault → IsWorkFault options file fault
-rate_refused options file option (works.Call (ManyPatterns other)) none = absurd none
-rate_refused options file option (works.Call (LongPattern other)) none = absurd none
-rate_refused options file option (works.Call (NoRate same word)) (is, told, none) =
+pub new_name_refused : (folder : FolderData) (options : CombineOptions) (names : List (List ℕ)) (file : Option (List ℕ)) (fault : WorkFault)
+    → IsNewNameFault options fault → IsWorkFault folder options names file fault
+new_name_refused folder options names file (works.Call (BadPath why word)) bad = bad
+new_name_refused folder options names file (works.Call (BadTest test)) bad = bad
+new_name_refused folder options names file (works.Call (ManyPatterns other)) none = absurd none
+new_name_refused folder options names file (works.Call (LongPattern other)) none = absurd none
+new_name_refused folder options names file (works.Call (NoRate other word)) none = absurd none
+new_name_refused folder options names file (works.Call (NoRoom other)) none = absurd none
+new_name_refused folder options names file (works.Call NoName) none = absurd none
+new_name_refused folder options names file (works.Call (Twice name)) none = absurd none
+new_name_refused folder options names file (works.Call (OneFile first second)) none = absurd none
+new_name_refused folder options names file (works.Call (UnreadList list)) none = absurd none
+new_name_refused folder options names file (works.Call (LongList list)) none = absurd none
+new_name_refused folder options names file (works.Call (NotText list number)) none = absurd none
+new_name_refused folder options names file works.Memory none = tt
+
+pub rate_refused : (folder : FolderData) (options : CombineOptions) (names : List (List ℕ)) (file : Option (List ℕ)) (option : CallOption) (fault : WorkFault)
+    → IsRateFault option (limit_in option options.limits) fault → IsWorkFault folder options names file fault
+rate_refused folder options names file option (works.Call (NoRate same word)) (is, told, none) =
     (subst (λ (o : CallOption). limit_in o options.limits ≡ Some word.now) (sym is) told, none)
-rate_refused options file option (works.Call (NoRoom other)) none = absurd none
-rate_refused options file option (works.Call NoName) none = absurd none
-rate_refused options file option (works.Call (Twice name)) none = absurd none
-rate_refused options file option works.Memory none = tt
+rate_refused folder options names file option (works.Call (ManyPatterns other)) none = absurd none
+rate_refused folder options names file option (works.Call (LongPattern other)) none = absurd none
+rate_refused folder options names file option (works.Call (BadPath why word)) none = absurd none
+rate_refused folder options names file option (works.Call (BadTest test)) none = absurd none
+rate_refused folder options names file option (works.Call (NoRoom other)) none = absurd none
+rate_refused folder options names file option (works.Call NoName) none = absurd none
+rate_refused folder options names file option (works.Call (Twice name)) none = absurd none
+rate_refused folder options names file option (works.Call (OneFile first second)) none = absurd none
+rate_refused folder options names file option (works.Call (UnreadList list)) none = absurd none
+rate_refused folder options names file option (works.Call (LongList list)) none = absurd none
+rate_refused folder options names file option (works.Call (NotText list number)) none = absurd none
+rate_refused folder options names file option works.Memory none = tt
 
-pub name_refused : (options : CombineOptions) (file : Option (List ℕ)) (fault : WorkFault) → IsNameFault options.names fault → IsWorkFault options file fault
-name_refused options file (works.Call (ManyPatterns other)) none = absurd none
-name_refused options file (works.Call (LongPattern other)) none = absurd none
-name_refused options file (works.Call (NoRate other word)) none = absurd none
-name_refused options file (works.Call (NoRoom other)) none = absurd none
-name_refused options file (works.Call NoName) is = is
-name_refused options file (works.Call (Twice name)) twice = twice
-name_refused options file works.Memory none = tt
+pub room_refused : (folder : FolderData) (options : CombineOptions) (names : List (List ℕ)) (file : Option (List ℕ)) (fault : WorkFault)
+    → IsRoomFault options file fault → IsWorkFault folder options names file fault
+room_refused folder options names file (works.Call (NoRoom option)) asks = asks
+room_refused folder options names file (works.Call (ManyPatterns other)) none = absurd none
+room_refused folder options names file (works.Call (LongPattern other)) none = absurd none
+room_refused folder options names file (works.Call (NoRate other word)) none = absurd none
+room_refused folder options names file (works.Call (BadPath why word)) none = absurd none
+room_refused folder options names file (works.Call (BadTest test)) none = absurd none
+room_refused folder options names file (works.Call NoName) none = absurd none
+room_refused folder options names file (works.Call (Twice name)) none = absurd none
+room_refused folder options names file (works.Call (OneFile first second)) none = absurd none
+room_refused folder options names file (works.Call (UnreadList list)) none = absurd none
+room_refused folder options names file (works.Call (LongList list)) none = absurd none
+room_refused folder options names file (works.Call (NotText list number)) none = absurd none
+room_refused folder options names file works.Memory none = tt
+
+pub name_refused : (folder : FolderData) (options : CombineOptions) (names : List (List ℕ)) (file : Option (List ℕ)) (fault : WorkFault)
+    → IsNameFault names fault → IsWorkFault folder options names file fault
+name_refused folder options names file (works.Call NoName) is = is
+name_refused folder options names file (works.Call (Twice name)) twice = twice
+name_refused folder options names file (works.Call (ManyPatterns other)) none = absurd none
+name_refused folder options names file (works.Call (LongPattern other)) none = absurd none
+name_refused folder options names file (works.Call (NoRate other word)) none = absurd none
+name_refused folder options names file (works.Call (BadPath why word)) none = absurd none
+name_refused folder options names file (works.Call (BadTest test)) none = absurd none
+name_refused folder options names file (works.Call (NoRoom other)) none = absurd none
+name_refused folder options names file (works.Call (OneFile first second)) none = absurd none
+name_refused folder options names file (works.Call (UnreadList list)) none = absurd none
+name_refused folder options names file (works.Call (LongList list)) none = absurd none
+name_refused folder options names file (works.Call (NotText list number)) none = absurd none
+name_refused folder options names file works.Memory none = tt
+
+pub one_file_refused : (folder : FolderData) (options : CombineOptions) (names : List (List ℕ)) (file : Option (List ℕ)) (fault : WorkFault)
+    → IsOneFileFault folder names fault → IsWorkFault folder options names file fault
+one_file_refused folder options names file (works.Call (OneFile first second)) one = one
+one_file_refused folder options names file (works.Call (ManyPatterns other)) none = absurd none
+one_file_refused folder options names file (works.Call (LongPattern other)) none = absurd none
+one_file_refused folder options names file (works.Call (NoRate other word)) none = absurd none
+one_file_refused folder options names file (works.Call (BadPath why word)) none = absurd none
+one_file_refused folder options names file (works.Call (BadTest test)) none = absurd none
+one_file_refused folder options names file (works.Call (NoRoom other)) none = absurd none
+one_file_refused folder options names file (works.Call NoName) none = absurd none
+one_file_refused folder options names file (works.Call (Twice name)) none = absurd none
+one_file_refused folder options names file (works.Call (UnreadList list)) none = absurd none
+one_file_refused folder options names file (works.Call (LongList list)) none = absurd none
+one_file_refused folder options names file (works.Call (NotText list number)) none = absurd none
+one_file_refused folder options names file works.Memory none = tt
+
+-- the name of the one test isn't taken
+pub test_refused : (options : CombineOptions) (fault : WorkFault) → IsTestFault options.test fault → IsNewNameFault options fault
+test_refused options (works.Call (BadTest test)) bad = bad
+test_refused options (works.Call (ManyPatterns other)) none = absurd none
+test_refused options (works.Call (LongPattern other)) none = absurd none
+test_refused options (works.Call (NoRate other word)) none = absurd none
+test_refused options (works.Call (BadPath why word)) none = absurd none
+test_refused options (works.Call (NoRoom other)) none = absurd none
+test_refused options (works.Call NoName) none = absurd none
+test_refused options (works.Call (Twice name)) none = absurd none
+test_refused options (works.Call (OneFile first second)) none = absurd none
+test_refused options (works.Call (UnreadList list)) none = absurd none
+test_refused options (works.Call (LongList list)) none = absurd none
+test_refused options (works.Call (NotText list number)) none = absurd none
+test_refused options works.Memory none = tt
+
+-- a word of `--path` isn't taken
+pub word_refused : (options : CombineOptions) (word : List ℕ) (fault : WorkFault) → Contains options.paths word → IsWordFault word fault → IsNewNameFault options fault
+word_refused options word (works.Call (BadPath why same)) within (is, bad) =
+    (subst (λ (w : List ℕ). Contains options.paths w) (sym is) within, subst (λ (w : List ℕ). IsRuleFault w why) (sym is) bad)
+word_refused options word (works.Call (ManyPatterns other)) within none = absurd none
+word_refused options word (works.Call (LongPattern other)) within none = absurd none
+word_refused options word (works.Call (NoRate other word)) within none = absurd none
+word_refused options word (works.Call (BadTest test)) within none = absurd none
+word_refused options word (works.Call (NoRoom other)) within none = absurd none
+word_refused options word (works.Call NoName) within none = absurd none
+word_refused options word (works.Call (Twice name)) within none = absurd none
+word_refused options word (works.Call (OneFile first second)) within none = absurd none
+word_refused options word (works.Call (UnreadList list)) within none = absurd none
+word_refused options word (works.Call (LongList list)) within none = absurd none
+word_refused options word (works.Call (NotText list number)) within none = absurd none
+word_refused options word works.Memory within none = tt
 
 -- ---- names
 
@@ -192,3 +333,40 @@ refused_at name option words i default within held are word is patterns.TooMany 
 refused_at name option words i default within held are word is patterns.TooLong answer told many long =
     (refl, word, (i, inside i (length words) (length (map name words)) within (length-map words name), at_map name words i default word within ∙ sym is), (long told).1)
 refused_at name option words i default within held are word is patterns.Memory answer told many long = tt
+
+-- ---- paths
+
+-- no rules yet
+pub no_rules : (words : List (List ℕ)) (names : NamesData) (test : Option (List ℕ)) → words ≡ [] → names.rules ≡ [] → names.test ≡ test → IsGoodTestIfAny test
+    → AreRulesOf words names.rules × AreGoodNames names
+no_rules words names test no_words none test_is good = (
+  rw (no_words, none) refl,
+  record { rules = subst (λ (rs : List RuleData). AllByRecursion IsGoodRule rs) (sym none) tt; test = subst (λ (t : Option (List ℕ)). IsGoodTestIfAny t) (sym test_is) good },
+)
+
+-- one rule more
+pub rule_on : {X : Type 0} (name : X → List ℕ) (words : List X) (i : ℕ) (default : X) → i < length words → (word : List ℕ) → word ≡ name (get_or words i default)
+    → (rules : List RuleData) (rule : RuleData) → AreRulesOf (map name (take i words)) rules → rule_of word ≡ Some rule → AreRulesOf (map name (take (i + 1) words)) (rules ++ rule ∷ [])
+rule_on name words i default within word is rules rule before now =
+    ap (λ (ws : List (List ℕ)). map rule_of ws) (one_word_more name words i default within word is)
+    ∙ map_push rule_of (map name (take i words)) word
+    ∙ ap (λ (rs : List (Option RuleData)). rs ++ rule_of word ∷ []) before
+    ∙ ap (λ (r : Option RuleData). map Some rules ++ r ∷ []) now
+    ∙ sym (map_push Some rules rule)
+
+pub good_on : (names : NamesData) (after : NamesData) (rule : RuleData) → AreGoodNames names → IsGoodRule rule → after.rules ≡ names.rules ++ rule ∷ [] → after.test ≡ names.test → AreGoodNames after
+good_on names after rule good can rules_are test_is = record {
+  rules = subst (λ (rs : List RuleData). AllByRecursion IsGoodRule rs) (sym rules_are) (All-joined IsGoodRule names.rules (rule ∷ []) good.rules (can, tt));
+  test = subst (λ (t : Option (List ℕ)). IsGoodTestIfAny t) (sym test_is) good.test;
+}
+
+-- the word is one of the option's
+pub word_there : {X : Type 0} (name : X → List ℕ) (words : List X) (i : ℕ) (default : X) → i < length words → (word : List ℕ) → word ≡ name (get_or words i default)
+    → (all : List (List ℕ)) → map name words ≡ all → Contains all word
+word_there name words i default within word is all same =
+    subst (λ (ws : List (List ℕ)). Contains ws word) same
+    (i, inside i (length words) (length (map name words)) within (length-map words name), at_map name words i default word within ∙ sym is)
+
+-- the one test is the option's
+pub same_test : (test asked : Option (List ℕ)) → test ≡ asked → IsGoodTestIfAny test → IsGoodTestIfAny asked
+same_test test asked is good = subst (λ (t : Option (List ℕ)). IsGoodTestIfAny t) is good

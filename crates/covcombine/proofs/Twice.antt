@@ -130,10 +130,17 @@ module _ {X : Type 0} (text : X → List ℕ) (words : List X) (i : ℕ) (d : X)
       subst (λ (n : List ℕ). IsTwice (map text words) n) at
       (here (map text words) i name (omega (arith, within, length-map words text)) (subst (λ (n : List ℕ). Contains (take i (map text words)) n) (sym at) earlier))
 
-  one_more : map text (take (i + 1) words) ≡ map text (take i words) ++ name ∷ []
+  pub one_more : map text (take (i + 1) words) ≡ map text (take i words) ++ name ∷ []
   one_more =
       ap (map text) (take_more words i d within) ∙ map_push text (take i words) (get_or words i d)
       ∙ ap (λ (n : List ℕ). map text (take i words) ++ n ∷ []) (sym is)
+
+  -- where this word's name is among all names
+  pub placed : map text words ≡ map text (take i words) ++ name ∷ drop (suc i) (map text words)
+  placed =
+      split (map text words) i name (omega (arith, within, length-map words text))
+      ∙ ap (λ (n : List ℕ). take i (map text words) ++ n ∷ drop (suc i) (map text words)) (get_or-map text words i d name within ∙ sym is)
+      ∙ ap (λ (ns : List (List ℕ)). ns ++ name ∷ drop (suc i) (map text words)) (take-map text i words)
 
   -- no name stands twice up to this word either
   pub none_on : (had : Bool) → had ≡ list_any (bytes_eq name) (map text (take i words)) → had ≡ false → ((n : List ℕ) → IsTwice (map text (take i words)) n → ⊥)

@@ -3,10 +3,14 @@ use Rattle.std.specs.Prelude.{◌≡◌, ◌⊎◌, ◌<◌, ℕ, suc, List, [],
 use Rattle.std.specs.Str.{IsUtf8}
 use Rattle.std.specs.String.{string_bytes}
 use Rattle.covcommand.specs.declared.asked.CombineOptions.{CombineOptions}
-use Rattle.covworld.specs.Folder.{FolderData}
+use Rattle.covread.specs.Outcome.{max_bytes}
+use Rattle.covstream.specs.Blocks.{HasReadAtMost}
+use Rattle.covstream.specs.declared.fault.BlockFault.{BlockFault}
+use Rattle.covstream.specs.declared.fault.BlockFault.TheVariants as blocks
+use Rattle.covworld.specs.Folder.{FolderData, IsTextOf}
 use Rattle.covworld.specs.Streams.{SourceData}
 use Rattle.covcombine.specs.Combine.{EndingData}
-use Rattle.covcombine.specs.Combined.{IsListFault, MayRead, of_call_fault, out_of_memory}
+use Rattle.covcombine.specs.Combined.{IsListFault, IsUnreadAt, MayRead, MayReadAt, of_call_fault, out_of_memory}
 use Rattle.covcombine.specs.FileNames.{ListPlace, InInput, InFile, cut_at, end_byte, name_of_list, place_of}
 use Rattle.covcombine.specs.declared.call_fault.CallFault.{CallFault}
 use Rattle.covcombine.specs.declared.call_fault.CallFault.TheVariants.{NotText}
@@ -30,6 +34,20 @@ IsTextFault list byte text (works.Call (NotText told number)) =
     (told.now ≡ name_of_list list) × (name : List ℕ) × (at : ℕ) × (number ≡ suc at) × (slice_get (cut_at byte text) at ≡ Some name) × (IsUtf8 name → ⊥)
 IsTextFault list byte text (works.Call other) = ⊥
 IsTextFault list byte text works.Memory = Unit {0}
+
+-- what was read of standard input for a list: its whole text, or as much as shows that it is too long. No read failed
+abbrev pub IsInputText : (before after : SourceData) → (text : List ℕ) → Type 0
+IsInputText before after text = HasReadAtMost (suc max_bytes) before.left after.left text × (after.failed_reads ≡ before.failed_reads)
+
+-- what was read of the list there
+abbrev pub IsTextAt : FolderData → ListPlace → (text : List ℕ) → (before after : SourceData) → Type 0
+IsTextAt folder (InFile name) text before after = IsTextOf (folder.holds name) text × (after ≡ before)
+IsTextAt folder InInput text before after = IsInputText before after text
+
+-- why nothing is read of the list there
+abbrev pub HasNoTextAt : FolderData → ListPlace → (before after : SourceData) → BlockFault → Type 0
+HasNoTextAt folder place before after blocks.Unreadable = IsUnreadAt folder place before after
+HasNoTextAt folder place before after blocks.Memory = MayReadAt place before after
 
 -- the list of this name isn't read: it can't be, or it is too long, whatever byte its names end at
 abbrev pub IsListStop : FolderData → (list : List ℕ) → (before after : SourceData) → WorkFault → Type 0

@@ -1,17 +1,20 @@
 //! The names of the files that a call reads: those of its words, and then those of its list.
 
 ghost use Rattle.std.specs.Prelude.{◌≡◌, ◌<◌, ◌++◌, ◌^◌, [], ◌∷◌, IfOk, IfErr, OnOk, filter, map, option_map};
+ghost use Rattle.std.specs.List.{AllByRecursion};
+ghost use Rattle.std.specs.Str.{IsUtf8};
 ghost use Rattle.std.specs.String.{string_bytes};
 ghost use Rattle.covworld.specs.Folder.{folder_data};
 ghost use Rattle.covworld.specs.Streams.{source};
+ghost use Rattle.covstream.specs.Blocks.{IsReadFault};
 ghost use Rattle.covcombine.specs.FileNames.{AreNamesOf, IsListRead, end_byte as end_byte_of, is_some_text, listed, name_of_list, place_of};
-ghost use Rattle.covcombine.specs.ListSteps.{IsListStop, IsNamesStop, IsPieceFault, IsTextFault, cut_once};
+ghost use Rattle.covcombine.specs.ListSteps.{HasNoTextAt, IsInputText, IsListStop, IsNamesStop, IsPieceFault, IsTextAt, IsTextFault, cut_once};
 
 use crate::call_fault::{CallFault, WorkFault};
 use covcommand::{CombineOptions, NameEnd, Names};
 use covdata::{Bytes, MAX_BYTES, Memory};
-use covstream::{BlockFault, Source};
-use covworld::{Folder, file_text, read_text};
+use covstream::{BLOCK_BYTES, BlockFault, Source, read_at_most};
+use covworld::{Folder, file_text};
 use memchr::memchr;
 use std::alloc::Global;
 
@@ -69,12 +72,7 @@ fn list_text<'a, F: Folder, I: Source>(
     ensures fault { IfErr result (IsListStop (folder_data F.Folder F.File.Source folder.now) list.now
         (source (I.left input.old) (I.reads input.old) (I.failed_reads input.old)) (source (I.left input.new) (I.reads input.new) (I.failed_reads input.new))) }
 {
-    let text = if list == "-" {
-        read_text(alloc, 0, input)
-    } else {
-        file_text(folder, alloc, list)
-    };
-    match text {
+    match first_text(folder, alloc, list, input) {
         Ok(text) if text.len() <= MAX_BYTES => Ok(text),
         Ok(_) => Err(WorkFault::Call(CallFault::LongList(list_name(list)))),
         Err(BlockFault::Unreadable) => {
@@ -82,6 +80,39 @@ fn list_text<'a, F: Folder, I: Source>(
         }
         Err(BlockFault::Memory) => Err(WorkFault::Memory),
     }
+}
+
+/// The text of the list called `list`, up to one byte more than the size limit. The extra byte shows that the list is too long.
+fn first_text<F: Folder, I: Source>(
+    folder: &F,
+    alloc: Global,
+    list: &str,
+    input: &mut I,
+) -> Result<Bytes, BlockFault>
+    requires reads { I.reads input.old < 2 ^ 62 }
+    requires failed_reads { I.failed_reads input.old < 2 ^ 62 }
+    ensures text { IfOk result (λ text. IsTextAt (folder_data F.Folder F.File.Source folder.now) (place_of list.now) text
+        (source (I.left input.old) (I.reads input.old) (I.failed_reads input.old)) (source (I.left input.new) (I.reads input.new) (I.failed_reads input.new))) }
+    ensures fault { IfErr result (HasNoTextAt (folder_data F.Folder F.File.Source folder.now) (place_of list.now)
+        (source (I.left input.old) (I.reads input.old) (I.failed_reads input.old)) (source (I.left input.new) (I.reads input.new) (I.failed_reads input.new))) }
+{
+    if list == "-" {
+        input_text(alloc, input)
+    } else {
+        file_text(folder, alloc, list)
+    }
+}
+
+/// The text of a list in `input`, up to one byte more than the size limit.
+fn input_text<I: Source>(alloc: Global, input: &mut I) -> Result<Bytes, BlockFault>
+    requires reads { I.reads input.old < 2 ^ 62 }
+    requires failed_reads { I.failed_reads input.old < 2 ^ 62 }
+    ensures text { IfOk result (IsInputText (source (I.left input.old) (I.reads input.old) (I.failed_reads input.old)) (source (I.left input.new) (I.reads input.new) (I.failed_reads input.new))) }
+    ensures fault { IfErr result (IsReadFault (I.left input.old) (I.left input.new) (I.failed_reads input.old) (I.failed_reads input.new)) }
+{
+    let mut block = vec![in alloc; 0; BLOCK_BYTES]?;
+    let text = read_at_most(Bytes::new(alloc), input, block.as_mut_slice(), MAX_BYTES + 1)?;
+    Ok(text)
 }
 
 /// How the list called `list` is named in messages.
@@ -115,6 +146,7 @@ fn push_listed<'a>(
     names: &mut Names,
 ) -> Result<(), WorkFault<'a>>
     ensures names { OnOk result (names.new ≡ names.old ++ listed end text.now) }
+    ensures texts { OnOk result (AllByRecursion IsUtf8 (listed end text.now)) }
     ensures fault { IfErr result (IsTextFault list.now end text.now) }
 {
     let mut number: u64 = 0;
@@ -147,6 +179,7 @@ fn push_name<'a>(
     names: &mut Names,
 ) -> Result<(), WorkFault<'a>>
     ensures names { OnOk result (names.new ≡ names.old ++ filter is_some_text (name.now ∷ [])) }
+    ensures texts { OnOk result (AllByRecursion IsUtf8 (filter is_some_text (name.now ∷ []))) }
     ensures fault { IfErr result (IsPieceFault list.now number name.now) }
 {
     if name.is_empty() {

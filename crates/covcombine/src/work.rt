@@ -136,9 +136,12 @@ fn new_names_of<'a>(
     ensures good { IfOk result AreGoodNames }
     ensures fault { IfErr result (IsNewNameFault options.now) }
 {
-    let mut names = NewNames::of_test(alloc, test_of(options)?);
-    for word in options.paths.get() {
-        names.add(rule_of(word.as_str())?)?;
+    let test = test_of(options)?;
+    let mut names = NewNames::of_test(alloc, test);
+    let words = options.paths.get();
+    for word in words {
+        let rule = rule_of(word.as_str())?;
+        names.add(rule)?;
     }
     Ok(names)
 }
