@@ -1,7 +1,7 @@
 -- Options are checked one after another: all of them do, or one of them doesn't.
 use Rattle.std.proofs.Common.{◌≡◌, ◌==◌, inl, inr, ⊎_elim, ℕ, true, false, true≢false, zero, suc, ◌+◌, ◌<◌, ◌≤◌, List, [], ◌∷◌, ◌++◌, length, map, take, drop, get_or, Option, Some, None, Result, Err, refl, sym, ap, subst, ◌∙◌, arith}
 use Rattle.std.proofs.lemmas.Bool.{eqb-true}
-use Rattle.std.proofs.lemmas.List.{length-map, length-take-le, map_push}
+use Rattle.std.proofs.lemmas.List.{length-map, length-take-le}
 use Rattle.std.specs.List.{AllByRecursion}
 use Rattle.std.specs.Option.{is_some, unwrap_or}
 use Rattle.std.specs.Prelude.{Contains, IfSome}
@@ -13,14 +13,14 @@ use Rattle.covcommand.specs.declared.asked.SourceFilter.{SourceFilter}
 use Rattle.covcommand.specs.declared.asked.TotalsForm.{TotalsForm}
 use Rattle.covcommand.specs.declared.asked.TotalsForm.TheVariants as forms
 use Rattle.covlimit.specs.Rates.{IsRate}
-use Rattle.covpaths.specs.Names.{AreGoodNames, IsGoodTestIfAny, NamesData}
+use Rattle.covpaths.specs.Names.{IsGoodTestIfAny}
 use Rattle.covpaths.specs.Paths.{IsGoodRule, IsRuleFault, RuleData, rule_of}
 use Rattle.covpaths.specs.declared.rule.RuleFault.{RuleFault}
 use Rattle.covpaths.specs.declared.rule.RuleFault.TheVariants as faults
 use Rattle.covreport.specs.Choice.{AllFiles, Filtered, max_pattern_bytes, max_patterns}
 use Rattle.covreport.specs.declared.patterns.PatternFault.{PatternFault}
 use Rattle.covreport.specs.declared.patterns.PatternFault.TheVariants as patterns
-use Rattle.covtable.proofs.Members.{All-in, All-joined, In, In-from}
+use Rattle.covtable.proofs.Members.{All-in, In, In-from}
 use Rattle.covworld.specs.Folder.{FolderData}
 use Rattle.covcombine.specs.Options.{AreRulesOf, IsCallFault, IsOneFile, choice_by, limit_in, patterns_in}
 use Rattle.covcombine.specs.Steps.{AreNames, ArePatterns, HasRoom, IsNameFault, IsNewNameFault, IsOneFileFault, IsPatternFault, IsRateFault, IsRoomFault, IsTestFault, IsWordFault, IsWorkFault, of_pattern}
@@ -30,7 +30,6 @@ use Rattle.covcombine.specs.declared.call_fault.CallOption.{CallOption}
 use Rattle.covcombine.specs.declared.call_fault.CallOption.TheVariants.{Include, Exclude, FailUnderLines, FailUnderFunctions, FailUnderBranches, List as ShowList, Json as PrintJson}
 use Rattle.covcombine.specs.declared.call_fault.WorkFault.{WorkFault}
 use Rattle.covcombine.specs.declared.call_fault.WorkFault.TheVariants as works
-use Rattle.covcombine.proofs.Twice.{one_more as one_word_more}
 
 apart : (n most : ℕ) → n ≤ most → most < n → ⊥
 apart n most few many = omega (arith, few, many)
@@ -242,29 +241,13 @@ one_file_refused folder options names file (works.Call (LongList list)) none = a
 one_file_refused folder options names file (works.Call (NotText list number)) none = absurd none
 one_file_refused folder options names file works.Memory none = tt
 
--- the name of the one test isn't taken
-pub test_refused : (options : CombineOptions) (fault : WorkFault) → IsTestFault options.test fault → IsNewNameFault options fault
-test_refused options (works.Call (BadTest test)) bad = bad
-test_refused options (works.Call (ManyPatterns other)) none = absurd none
-test_refused options (works.Call (LongPattern other)) none = absurd none
-test_refused options (works.Call (NoRate other word)) none = absurd none
-test_refused options (works.Call (BadPath why word)) none = absurd none
-test_refused options (works.Call (NoRoom other)) none = absurd none
-test_refused options (works.Call NoName) none = absurd none
-test_refused options (works.Call (Twice name)) none = absurd none
-test_refused options (works.Call (OneFile first second)) none = absurd none
-test_refused options (works.Call (UnreadList list)) none = absurd none
-test_refused options (works.Call (LongList list)) none = absurd none
-test_refused options (works.Call (NotText list number)) none = absurd none
-test_refused options works.Memory none = tt
-
 -- a word of `--path` isn't taken
 pub word_refused : (options : CombineOptions) (word : List ℕ) (fault : WorkFault) → Contains options.paths word → IsWordFault word fault → IsNewNameFault options fault
 word_refused options word (works.Call (BadPath why same)) within (is, bad) =
     (subst (λ (w : List ℕ). Contains options.paths w) (sym is) within, subst (λ (w : List ℕ). IsRuleFault w why) (sym is) bad)
 word_refused options word (works.Call (ManyPatterns other)) within none = absurd none
 word_refused options word (works.Call (LongPattern other)) within none = absurd none
-word_refused options word (works.Call (NoRate other word)) within none = absurd none
+word_refused options word (works.Call (NoRate other told)) within none = absurd none
 word_refused options word (works.Call (BadTest test)) within none = absurd none
 word_refused options word (works.Call (NoRoom other)) within none = absurd none
 word_refused options word (works.Call NoName) within none = absurd none
@@ -335,30 +318,6 @@ refused_at name option words i default within held are word is patterns.TooLong 
 refused_at name option words i default within held are word is patterns.Memory answer told many long = tt
 
 -- ---- paths
-
--- no rules yet
-pub no_rules : (words : List (List ℕ)) (names : NamesData) (test : Option (List ℕ)) → words ≡ [] → names.rules ≡ [] → names.test ≡ test → IsGoodTestIfAny test
-    → AreRulesOf words names.rules × AreGoodNames names
-no_rules words names test no_words none test_is good = (
-  rw (no_words, none) refl,
-  record { rules = subst (λ (rs : List RuleData). AllByRecursion IsGoodRule rs) (sym none) tt; test = subst (λ (t : Option (List ℕ)). IsGoodTestIfAny t) (sym test_is) good },
-)
-
--- one rule more
-pub rule_on : {X : Type 0} (name : X → List ℕ) (words : List X) (i : ℕ) (default : X) → i < length words → (word : List ℕ) → word ≡ name (get_or words i default)
-    → (rules : List RuleData) (rule : RuleData) → AreRulesOf (map name (take i words)) rules → rule_of word ≡ Some rule → AreRulesOf (map name (take (i + 1) words)) (rules ++ rule ∷ [])
-rule_on name words i default within word is rules rule before now =
-    ap (λ (ws : List (List ℕ)). map rule_of ws) (one_word_more name words i default within word is)
-    ∙ map_push rule_of (map name (take i words)) word
-    ∙ ap (λ (rs : List (Option RuleData)). rs ++ rule_of word ∷ []) before
-    ∙ ap (λ (r : Option RuleData). map Some rules ++ r ∷ []) now
-    ∙ sym (map_push Some rules rule)
-
-pub good_on : (names : NamesData) (after : NamesData) (rule : RuleData) → AreGoodNames names → IsGoodRule rule → after.rules ≡ names.rules ++ rule ∷ [] → after.test ≡ names.test → AreGoodNames after
-good_on names after rule good can rules_are test_is = record {
-  rules = subst (λ (rs : List RuleData). AllByRecursion IsGoodRule rs) (sym rules_are) (All-joined IsGoodRule names.rules (rule ∷ []) good.rules (can, tt));
-  test = subst (λ (t : Option (List ℕ)). IsGoodTestIfAny t) (sym test_is) good.test;
-}
 
 -- the word is one of the option's
 pub word_there : {X : Type 0} (name : X → List ℕ) (words : List X) (i : ℕ) (default : X) → i < length words → (word : List ℕ) → word ≡ name (get_or words i default)
