@@ -111,7 +111,12 @@ fn input_text<I: Source>(alloc: Global, input: &mut I) -> Result<Bytes, BlockFau
     ensures fault { IfErr result (IsReadFault (I.left input.old) (I.left input.new) (I.failed_reads input.old) (I.failed_reads input.new)) }
 {
     let mut block = vec![in alloc; 0; BLOCK_BYTES]?;
-    let text = read_at_most(Bytes::new(alloc), input, block.as_mut_slice(), MAX_BYTES + 1)?;
+    let text = read_at_most(
+        Bytes::new(alloc),
+        input,
+        block.as_mut_slice(),
+        MAX_BYTES + 1,
+    )?;
     Ok(text)
 }
 

@@ -1,4 +1,4 @@
-use Rattle.std.proofs.Common.{List, ℕ, Option, Some, ◌∙◌, take, ap, arith}
+use Rattle.std.proofs.Common.{arith}
 use Rattle.covcombine.proofs.Cuts.{cut_nowhere, cut_there, whole_rest}
 use Rattle.covcombine.proofs.file_names.cut.Goals as goal
 

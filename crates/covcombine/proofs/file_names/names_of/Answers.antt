@@ -25,15 +25,15 @@ returns-clause-names g c =
     let before = source (g.I.Source.left c.args.input.now) (g.I.Source.reads c.args.input.now) (g.I.Source.failed_reads c.args.input.now) in
     let first = c.in_ok-names.ensures ∙ c.get.ensures in
     elim c.match-options.branch [
-      in-Some+in_ok-text+in_ok-push_listed w ↦
-        (let input = w.list_text.new.input in
-        let after = source (g.I.Source.left input) (g.I.Source.reads input) (g.I.Source.failed_reads input) in
-        let read = subst (λ t. IsListRead folder (place_of w.as_str-list.result.now) t before after) (sym w.get-in-Some.ensures) w.in_ok-text.ensures.text in
-        rw (w.input-is, w.names-is)
-        (names_listed folder c.args.options.now before after w.as_str-list.result.now w.get-in-Some.result.now w.end_byte.result
-        (ap (λ l. option_map string_bytes l) w.in-Some.is ∙ ap (λ n. Some n) (sym w.as_str-list.ensures.value)) w.end_byte.ensures read
-        c.in_ok-names.names w.push_listed.new.names first w.in_ok-push_listed.ensures.texts w.in_ok-push_listed.ensures.names))
-    | in_default w ↦
-        rw (w.input-is, w.names-is)
-        (names_alone folder c.args.options.now before before c.in_ok-names.names (ap (λ l. option_map string_bytes l) w.in_default.is) refl first)
+      | in-Some+in_ok-text+in_ok-push_listed w ↦
+          (let input = w.list_text.new.input in
+          let after = source (g.I.Source.left input) (g.I.Source.reads input) (g.I.Source.failed_reads input) in
+          let read = subst (λ t. IsListRead folder (place_of w.as_str-list.result.now) t before after) (sym w.get-in-Some.ensures) w.in_ok-text.ensures.text in
+          rw (w.input-is, w.names-is)
+          (names_listed folder c.args.options.now before after w.as_str-list.result.now w.get-in-Some.result.now w.end_byte.result
+          (ap (λ l. option_map string_bytes l) w.in-Some.is ∙ ap (λ n. Some n) (sym w.as_str-list.ensures.value)) w.end_byte.ensures read
+          c.in_ok-names.names w.push_listed.new.names first w.in_ok-push_listed.ensures.texts w.in_ok-push_listed.ensures.names))
+      | in_default w ↦
+          rw (w.input-is, w.names-is)
+          (names_alone folder c.args.options.now before before c.in_ok-names.names (ap (λ l. option_map string_bytes l) w.in_default.is) refl first)
     ]

@@ -1,4 +1,4 @@
-use Rattle.std.proofs.Common.{ℕ, List, Option, ap, subst, option_map, arith}
+use Rattle.std.proofs.Common.{ap, subst, option_map}
 use Rattle.std.proofs.lemmas.Result.{err_from_is_err_and}
 use Rattle.covcombine.proofs.Cuts.{IsCut, cut_fault, cut_on, cuts_left, fewer, rest_less}
 use Rattle.covcombine.proofs.file_names.push_listed.Goals as goal

@@ -18,18 +18,18 @@ pub loop-word-preserved : goal.loop-word-preserved
 loop-word-preserved g c =
     let is = c.as_str-name.ensures.value ∙ ap string_bytes c.word-item.is in
     elim c.match-look.branch [
-      in-Some+in_ok-first+in_default-2 w ↦
-        subst (λ s. IsApart (folder_data g.F.Folder g.F.File.Source c.args.folder.now) (map string_bytes (take (c.loop-word.word-index + 1) c.args.names.now)) (λ id. option_map (λ n. n.now) (get id_cmp s id)))
-        (sym w.seen-is)
-        (more_words _ string_bytes c.args.names.now c.loop-word.word-index c.word-item.result c.loop-word-test.true c.as_str-name.result.now is _
-        (new_on _ _ _ c.loop-word.invariant c.as_str-name.result.now w.in-Some.id w.in-Some.ensures (ap (λ o. option_map (λ n. n.now) o) (sym w.in_ok-first.ensures.old ∙ w.in_default-2.is))
-        (λ id. option_map (λ n. n.now) (get id_cmp w.insert.new.self id)) (ap (λ o. option_map (λ n. n.now) o) w.in_ok-first.ensures.updates.1)
-        (put_each id_cmp same_id (λ n. n.now) c.loop-word.seen w.insert.new.self w.in-Some.id c.as_str-name.result w.in_ok-first.ensures.updates)))
-    | in_default w ↦
-        subst (λ s. IsApart (folder_data g.F.Folder g.F.File.Source c.args.folder.now) (map string_bytes (take (c.loop-word.word-index + 1) c.args.names.now)) (λ id. option_map (λ n. n.now) (get id_cmp s id)))
-        (sym w.seen-is)
-        (more_words _ string_bytes c.args.names.now c.loop-word.word-index c.word-item.result c.loop-word-test.true c.as_str-name.result.now is _
-        (unknown_on _ _ _ c.loop-word.invariant c.as_str-name.result.now w.in_default.ensures))
+      | in-Some+in_ok-first+in_default-2 w ↦
+          subst (λ s. IsApart (folder_data g.F.Folder g.F.File.Source c.args.folder.now) (map string_bytes (take (c.loop-word.word-index + 1) c.args.names.now)) (λ id. option_map (λ n. n.now) (get id_cmp s id)))
+          (sym w.seen-is)
+          (more_words _ string_bytes c.args.names.now c.loop-word.word-index c.word-item.result c.loop-word-test.true c.as_str-name.result.now is _
+          (new_on _ _ _ c.loop-word.invariant c.as_str-name.result.now w.in-Some.id w.in-Some.ensures (ap (λ o. option_map (λ n. n.now) o) (sym w.in_ok-first.ensures.old ∙ w.in_default-2.is))
+          (λ id. option_map (λ n. n.now) (get id_cmp w.insert.new.self id)) (ap (λ o. option_map (λ n. n.now) o) w.in_ok-first.ensures.updates.1)
+          (put_each id_cmp same_id (λ n. n.now) c.loop-word.seen w.insert.new.self w.in-Some.id c.as_str-name.result w.in_ok-first.ensures.updates)))
+      | in_default w ↦
+          subst (λ s. IsApart (folder_data g.F.Folder g.F.File.Source c.args.folder.now) (map string_bytes (take (c.loop-word.word-index + 1) c.args.names.now)) (λ id. option_map (λ n. n.now) (get id_cmp s id)))
+          (sym w.seen-is)
+          (more_words _ string_bytes c.args.names.now c.loop-word.word-index c.word-item.result c.loop-word-test.true c.as_str-name.result.now is _
+          (unknown_on _ _ _ c.loop-word.invariant c.as_str-name.result.now w.in_default.ensures))
     ]
 
 pub returns : goal.returns
