@@ -1,5 +1,5 @@
 -- Which names are of one file, found with the map of all ids so far.
-use Rattle.std.proofs.Common.{◌≡◌, ◌⊎◌, inl, inr, ⊎_elim, ℕ, zero, suc, ◌+◌, ◌<◌, ◌≤◌, Bool, true, false, true≢false, List, [], ◌∷◌, ◌++◌, length, map, take, drop, get_or, Option, None, Some, refl, sym, ap, subst, ◌∙◌, arith}
+use Rattle.std.proofs.Common.{◌≡◌, ◌⊎◌, inl, inr, ⊎_elim, ℕ, zero, suc, ◌+◌, ◌<◌, ◌≤◌, Bool, true, false, true≢false, Bor, List, [], ◌∷◌, ◌++◌, length, map, take, drop, get_or, Option, None, Some, refl, sym, ap, subst, ◌∙◌, arith}
 use Rattle.std.proofs.lemmas.Bool.{cases_Bool, cond-true, cond-false}
 use Rattle.std.proofs.lemmas.List.{take_all}
 use Rattle.std.proofs.lemmas.List.Elements.{Contains-append_cases, Contains-append_left, Contains-append_right}
@@ -134,42 +134,62 @@ abbrev id_of : (device file : ℕ) → FileId
 id_of device file = record { device = device; file = file }
 
 -- only one id is equal to an id
-pub same_id : (x y : FileId) → is_at (id_cmp x) y ≡ true → x ≡ y
+same_id : (x y : FileId) → is_at (id_cmp x) y ≡ true → x ≡ y
 same_id x y is =
     let parts = same_parts (nat_cmp x.device y.device) (nat_cmp x.file y.file) is in
     ap (λ (d : ℕ). id_of d x.file) (exact_unsigned x.device y.device parts.0) ∙ ap (λ (f : ℕ). id_of y.device f) (exact_unsigned x.file y.file parts.1)
 
+-- the name that the map gives an id
+abbrev pub name_in : BTreeMap FileId (Bor (List ℕ)) → FileId → Option (List ℕ)
+name_in seen id = option_map (λ n. n.now) (get id_cmp seen id)
+
 -- what a map says of each id after one of them was put into it
-pub put_each : {X : Type 0} (R : FileId → FileId → Ordering) → ((x y : FileId) → is_at (R x) y ≡ true → x ≡ y) → (text : X → List ℕ) (before after : BTreeMap FileId X) (id : FileId) (value : X)
-    → Updates R before after id (Some value)
-    → (q : FileId) → ((id ≡ q) × (option_map text (get R after q) ≡ Some (text value))) ⊎ (option_map text (get R after q) ≡ option_map text (get R before q))
-put_each {X} R exact text before after id value updates q =
-    ⊎_elim (λ same. inl (exact id q same, ap (λ (o : Option X). option_map text o) (updates.0 q ∙ cond-true (is_at (R id) q) (Some value) (get R before q) same)))
-    (λ other. inr (ap (λ (o : Option X). option_map text o) (updates.0 q ∙ cond-false (is_at (R id) q) (Some value) (get R before q) other))) (cases_Bool (is_at (R id) q))
+put_each : (before after : BTreeMap FileId (Bor (List ℕ))) (id : FileId) (name : Bor (List ℕ)) → Updates id_cmp before after id (Some name)
+    → (q : FileId) → ((id ≡ q) × (name_in after q ≡ Some name.now)) ⊎ (name_in after q ≡ name_in before q)
+put_each before after id name updates q =
+    ⊎_elim (λ same. inl (same_id id q same, ap (option_map (λ n. n.now)) (updates.0 q ∙ cond-true (is_at (id_cmp id) q) (Some name) (get id_cmp before q) same)))
+    (λ other. inr (ap (option_map (λ n. n.now)) (updates.0 q ∙ cond-false (is_at (id_cmp id) q) (Some name) (get id_cmp before q) other))) (cases_Bool (is_at (id_cmp id) q))
 
 -- ---- the words of a call, as far as they were looked at
 
-module _ {X : Type 0} (folder : FolderData) (text : X → List ℕ) (words : List X) (i : ℕ) (found : FileId → Option (List ℕ)) (so_far : IsApart folder (map text (take i words)) found) where
-  -- the map had the id of this name before
-  pub one_file_at : (d : X) → i < length words → (name : List ℕ) → name ≡ text (get_or words i d) → (id : FileId) (first : List ℕ) → found id ≡ Some first → folder.MayBe name (Some id)
-      → AreOneFile folder (map text words) first name
-  one_file_at d within name is id first told this =
-      let held = so_far.held id first told in
-      record {
-        before = map text (take i words);
-        after = drop (suc i) (map text words);
-        place = placed text words i d within name is;
-        earlier = held.0;
-        id = id;
-        of_first = held.1;
-        of_second = this;
-      }
+module _ {X : Type 0} (folder : FolderData) (text : X → List ℕ) (words : List X) (i : ℕ) (seen : BTreeMap FileId (Bor (List ℕ)))
+    (so_far : IsApart folder (map text (take i words)) (name_in seen)) where
+  module _ (d : X) (within : i < length words) (name : Bor (List ℕ)) (is : name.now ≡ text (get_or words i d)) where
+    -- the map had the id of this name before
+    pub one_file_at : (id : FileId) → folder.MayBe name.now (Some id) → (old : Option (Bor (List ℕ))) → old ≡ get id_cmp seen id → (first : Bor (List ℕ)) → old ≡ Some first
+        → AreOneFile folder (map text words) first.now name.now
+    one_file_at id this old old_is first first_is =
+        let held = so_far.held id first.now (ap (option_map (λ n. n.now)) (sym old_is ∙ first_is)) in
+        record {
+          before = map text (take i words);
+          after = drop (suc i) (map text words);
+          place = placed text words i d within name.now is;
+          earlier = held.0;
+          id = id;
+          of_first = held.1;
+          of_second = this;
+        }
+
+    with_this : (found : FileId → Option (List ℕ)) → IsApart folder (map text (take i words) ++ name.now ∷ []) found → IsApart folder (map text (take (i + 1) words)) found
+    with_this found apart = subst (λ (ns : List (List ℕ)). IsApart folder ns found) (sym (one_more text words i d within name.now is)) apart
+
+    -- the id of this name isn't known
+    pub unknown_at : folder.MayBe name.now None → (after : BTreeMap FileId (Bor (List ℕ))) → after ≡ seen → IsApart folder (map text (take (i + 1) words)) (name_in after)
+    unknown_at this after same =
+        with_this (name_in after)
+        (subst (λ (m : BTreeMap FileId (Bor (List ℕ))). IsApart folder (map text (take i words) ++ name.now ∷ []) (name_in m)) (sym same)
+        (unknown_on folder (map text (take i words)) (name_in seen) so_far name.now this))
+
+    -- the map didn't have the id of this name, and has it now
+    pub noted_at : (id : FileId) → folder.MayBe name.now (Some id) → (old : Option (Bor (List ℕ))) → old ≡ get id_cmp seen id → old ≡ None
+        → (next : BTreeMap FileId (Bor (List ℕ))) → Updates id_cmp seen next id (Some name) → (after : BTreeMap FileId (Bor (List ℕ))) → after ≡ next
+        → IsApart folder (map text (take (i + 1) words)) (name_in after)
+    noted_at id this old old_is none next updates after same =
+        with_this (name_in after)
+        (subst (λ (m : BTreeMap FileId (Bor (List ℕ))). IsApart folder (map text (take i words) ++ name.now ∷ []) (name_in m)) (sym same)
+        (new_on folder (map text (take i words)) (name_in seen) so_far name.now id this (ap (option_map (λ n. n.now)) (sym old_is ∙ none)) (name_in next)
+        (ap (option_map (λ n. n.now)) updates.1) (put_each seen next id name updates)))
 
   -- all names were looked at
   pub apart_at_end : length words ≤ i → AreApart folder (map text words)
   apart_at_end done = (so_far.ids, subst (λ (ws : List X). AreIdsOf folder (map text ws) so_far.ids) (take_all i words done) so_far.given, so_far.different)
-
--- with one word more
-pub more_words : {X : Type 0} (folder : FolderData) (text : X → List ℕ) (words : List X) (i : ℕ) (d : X) → i < length words → (name : List ℕ) → name ≡ text (get_or words i d)
-    → (found : FileId → Option (List ℕ)) → IsApart folder (map text (take i words) ++ name ∷ []) found → IsApart folder (map text (take (i + 1) words)) found
-more_words folder text words i d within name is found apart = subst (λ (ns : List (List ℕ)). IsApart folder ns found) (sym (one_more text words i d within name is)) apart
