@@ -1,5 +1,5 @@
 -- Which ending a call has, from the results of its steps.
-use Rattle.std.proofs.Common.{◌≡◌, ◌==◌, inl, inr, ℕ, Bool, true, false, true≢false, List, [], ◌∷◌, ◌++◌, length, Option, Some, None, Result, IfOk, OnOk, if◌then◌else◌, refl, sym, ap, subst, ◌∙◌, arith}
+use Rattle.std.proofs.Common.{◌≡◌, ◌==◌, inl, inr, ℕ, Bool, true, false, true≢false, List, [], ◌∷◌, ◌++◌, length, Option, Some, None, Result, IfOk, OnOk, if◌then◌else◌, append_assoc, refl, sym, ap, subst, ◌∙◌, arith}
 use Rattle.std.proofs.lemmas.Bool.{eqb-true}
 use Rattle.covbook.specs.Op.{EntryData}
 use Rattle.covbook.specs.Step.{ops_in, table_of}
@@ -8,6 +8,7 @@ use Rattle.covcommand.specs.declared.asked.Overview.TheVariants as overviews
 use Rattle.covcommand.specs.declared.asked.TotalsForm.{TotalsForm}
 use Rattle.covcommand.specs.declared.asked.TotalsForm.TheVariants as forms
 use Rattle.covlist.specs.Chosen.{totals_of_chosen}
+use Rattle.covpaths.specs.Paths.{RuleData}
 use Rattle.covreport.specs.Choice.{ChoiceData}
 use Rattle.covreport.specs.Summary.{summary_of}
 use Rattle.covtable.specs.Content.{SectionData, content_at}
@@ -19,13 +20,13 @@ use Rattle.covworkers.specs.declared.collect_fault.CollectFault.{CollectFault}
 use Rattle.covworkers.specs.declared.collect_fault.CollectFault.TheVariants as collects
 use Rattle.covworkers.specs.declared.refused.RefusedInput.{RefusedInput}
 use Rattle.covworld.specs.Folder.{FolderData}
-use Rattle.covcombine.specs.Combine.{EndingData, Fails, Gives, GivenData, end_of, failure_status, failures, fails_for, given, is_whole, judged_by, overview_text, pattern_lines, warnings}
+use Rattle.covcombine.specs.Combine.{EndingData, Fails, Gives, GivenData, doubts, end_of, failure_status, failures, fails_for, given, is_whole, judged_by, overview_text, pattern_lines, unused_from, warnings}
 use Rattle.covcombine.specs.Combined.{Ends, of_call_fault, of_collecting}
 use Rattle.covcombine.specs.Messages.{call_fault_line}
 use Rattle.covcombine.specs.Notes.{IsOfFile}
 use Rattle.covcombine.specs.Options.{CombineData}
 use Rattle.covcombine.specs.declared.call_fault.CallFault.{CallFault}
-use Rattle.covcombine.specs.declared.call_fault.CallFault.TheVariants.{ManyPatterns, LongPattern, NoRate, NoRoom, NoName, Twice}
+use Rattle.covcombine.specs.declared.call_fault.CallFault.TheVariants.{ManyPatterns, LongPattern, NoRate, BadPath, BadTest, NoRoom, NoName, Twice, OneFile, UnreadList, LongList, NotText}
 use Rattle.covcombine.specs.declared.note.Note.{Note}
 
 abbrev parts : (warned tracefile overview missed : List ℕ) → GivenData
@@ -61,14 +62,24 @@ shown_words {E} result overview form choice sections totals is_summary is_words 
     (ap summary_of same ∙ sym (ap (λ (o : Overview). overview_text o form choice sections) is_summary ∙ ap (λ (f : TotalsForm). overview_text overviews.Summary f choice sections) is_words))
     done
 
--- the lines about the patterns, if the whole was added up
-pub judged_so : {A E : Type 0} (result : Result A E) (front lines after : List ℕ) (choice : ChoiceData) (entries : List EntryData) (notes : List (RefusedInput Note)) (files : List FileTotalsData)
-    → is_whole entries notes ≡ true → files ≡ files_with_totals (content_at (table_of (ops_in entries))) → OnOk result (after ≡ lines ++ pattern_lines front choice files)
-    → OnOk result (after ≡ lines ++ judged_by front choice entries notes)
-judged_so {A} {E} result front lines after choice entries notes files whole are done =
-    subst (λ (t : List ℕ). OnOk result (after ≡ lines ++ t))
-    (ap (pattern_lines front choice) are ∙ sym (ap (λ (b : Bool). if b then pattern_lines front choice (files_with_totals (content_at (table_of (ops_in entries)))) else []) whole))
+-- the lines about the paths and the patterns, if the whole was added up
+pub judged_so : {A E : Type 0} (result : Result A E) (front lines middle after : List ℕ) (work : CombineData) (rules : List RuleData) (entries : List EntryData)
+    (seen notes : List (RefusedInput Note)) (files : List FileTotalsData)
+    → is_whole entries notes ≡ true → middle ≡ lines ++ unused_from front seen 0 rules → seen ≡ notes → rules ≡ work.new.rules
+    → files ≡ files_with_totals (content_at (table_of (ops_in entries))) → OnOk result (after ≡ middle ++ pattern_lines front work.choice files)
+    → OnOk result (after ≡ lines ++ judged_by front work entries notes)
+judged_so {A} {E} result front lines middle after work rules entries seen notes files whole paths are_notes are_rules are done =
+    subst (λ (t : List ℕ). OnOk result (after ≡ t))
+    (ap (λ (m : List ℕ). m ++ pattern_lines front work.choice files) paths
+    ∙ joined lines (unused_from front seen 0 rules) (pattern_lines front work.choice files)
+    ∙ ap (λ (ns : List (RefusedInput Note)). lines ++ (unused_from front ns 0 rules ++ pattern_lines front work.choice files)) are_notes
+    ∙ ap (λ (rs : List RuleData). lines ++ (unused_from front notes 0 rs ++ pattern_lines front work.choice files)) are_rules
+    ∙ ap (λ (fs : List FileTotalsData). lines ++ (unused_from front notes 0 work.new.rules ++ pattern_lines front work.choice fs)) are
+    ∙ sym (ap (λ (b : Bool). lines ++ (if b then doubts front work entries notes else [])) whole))
     done
+  where
+    joined : (a b c : List ℕ) → (a ++ b) ++ c ≡ a ++ (b ++ c)
+    joined a b c = simp append_assoc
 
 -- what a call gives, part by part
 pub given_so : (warned tracefile overview missed shown seen short : List ℕ) → tracefile ≡ shown → overview ≡ seen → missed ≡ short
@@ -87,22 +98,40 @@ some_lines (b ∷ bs) is none = omega (arith, ap (λ (l : List ℕ). length l) n
 
 -- ---- a call that isn't begun
 
--- every other fault than files that are expected and not named
-pub other_fault : (expected : Option ℕ) (fault : CallFault) → ((number : ℕ) → expected ≡ Some number → fault ≡ NoName → ⊥) → of_call_fault expected fault ≡ Fails 2 (call_fault_line fault)
-other_fault None fault other = refl
-other_fault (Some number) (ManyPatterns option) other = refl
-other_fault (Some number) (LongPattern option) other = refl
-other_fault (Some number) (NoRate option word) other = refl
-other_fault (Some number) (NoRoom option) other = refl
-other_fault (Some number) NoName other = absurd (other number refl refl)
-other_fault (Some number) (Twice name) other = refl
+-- every other fault than files that are expected and not named, and a list that can't be read
+pub other_fault : (expected : Option ℕ) (fault : CallFault) → ((number : ℕ) → expected ≡ Some number → fault ≡ NoName → ⊥) → ((list : _) → fault ≡ UnreadList list → ⊥)
+    → of_call_fault expected fault ≡ Fails 2 (call_fault_line fault)
+other_fault None (ManyPatterns option) named read = refl
+other_fault None (LongPattern option) named read = refl
+other_fault None (NoRate option word) named read = refl
+other_fault None (BadPath fault word) named read = refl
+other_fault None (BadTest test) named read = refl
+other_fault None (NoRoom option) named read = refl
+other_fault None NoName named read = refl
+other_fault None (Twice name) named read = refl
+other_fault None (OneFile first second) named read = refl
+other_fault None (UnreadList list) named read = absurd (read list refl)
+other_fault None (LongList list) named read = refl
+other_fault None (NotText list number) named read = refl
+other_fault (Some number) (ManyPatterns option) named read = refl
+other_fault (Some number) (LongPattern option) named read = refl
+other_fault (Some number) (NoRate option word) named read = refl
+other_fault (Some number) (BadPath fault word) named read = refl
+other_fault (Some number) (BadTest test) named read = refl
+other_fault (Some number) (NoRoom option) named read = refl
+other_fault (Some number) NoName named read = absurd (named number refl refl)
+other_fault (Some number) (Twice name) named read = refl
+other_fault (Some number) (OneFile first second) named read = refl
+other_fault (Some number) (UnreadList list) named read = absurd (read list refl)
+other_fault (Some number) (LongList list) named read = refl
+other_fault (Some number) (NotText list place) named read = refl
 
 -- ---- collecting
 
 pub ends_collected : (folder : FolderData) (jobs : ℕ) (work : CombineData) (ending : EndingData) (entries : List EntryData) (notes : List (RefusedInput Note))
-    → IsCollectedSoFar (IsOfFile folder work.strictness) work.files jobs entries notes → ending ≡ end_of work entries notes → Ends folder jobs work ending
+    → IsCollectedSoFar (IsOfFile folder work.new work.strictness) work.files jobs entries notes → ending ≡ end_of work entries notes → Ends folder jobs work ending
 ends_collected folder jobs work ending entries notes collected is = inr (inr (entries, notes, collected, is))
 
 pub ends_uncollected : (folder : FolderData) (jobs : ℕ) (work : CombineData) (ending : EndingData) (fault : CollectFault) → (fault ≡ collects.BadJobs → AreJobs jobs → ⊥)
-    → MayCome (FillHistory (IsOfFile folder work.strictness) work.files) fault → ending ≡ of_collecting fault → Ends folder jobs work ending
+    → MayCome (FillHistory (IsOfFile folder work.new work.strictness) work.files) fault → ending ≡ of_collecting fault → Ends folder jobs work ending
 ends_uncollected folder jobs work ending fault bad may is = inr (inl (fault, bad, may, is))

@@ -401,7 +401,8 @@ fn put_paths(
 {
     for place in 0..rules.len() {
         if !is_used(notes, place) {
-            put_unused(front, rules[place].old(), rules[place].new(), lines)?;
+            let rule = &rules[place];
+            put_unused(front, rule.old(), rule.new(), lines)?;
         }
     }
     Ok(())

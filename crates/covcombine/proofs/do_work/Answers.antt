@@ -19,8 +19,8 @@ pub returns-in-Ok-end_of-clause-reported : goal.returns-in-Ok-end_of-clause-repo
 returns-in-Ok-end_of-clause-reported g c =
     work_told (folder_data g.F.Folder g.F.File.Source c.args.folder.now) c.args.jobs (work_data c.args.work) _ _ _ _ _
     (ends_collected (folder_data g.F.Folder g.F.File.Source c.args.folder.now) c.args.jobs (work_data c.args.work) _ _ _
-    (collected_of (record { own = λ one. one.folder.now; name = λ one. one.name.now; strictness = λ one. one.strictness; stage = λ one. one.stage })
-    c.args.folder.now c.args.work.strictness (folder_data g.F.Folder g.F.File.Source) g.F.File.Source.left g.F.File.Source.failed_reads
+    (collected_of (record { own = λ one. one.folder.now; name = λ one. one.name.now; new = λ one. one.new_names.now; strictness = λ one. one.strictness; stage = λ one. one.stage })
+    c.args.folder.now c.args.work.new_names c.args.work.strictness (folder_data g.F.Folder g.F.File.Source) g.F.File.Source.left g.F.File.Source.failed_reads
     c.in-Ok.inputs.items (map string_bytes c.args.work.files.now) c.args.jobs _ _ c.in-Ok.ensures.names c.in-Ok.ensures.own c.in-Ok-collect_into_book.ensures.collected)
     c.in-Ok-end_of.ensures)
     c.report-in-Ok-end_of.ensures.reported
@@ -32,8 +32,8 @@ returns-in-Ok-collect_into_book-clause-reported g c =
 pub end_for_collecting-requires : goal.end_for_collecting-requires
 end_for_collecting-requires g c =
     subst (λ (fault : CollectFault). MayComeAtAll fault) (sym c.in-Err-Collect.fault-is)
-    (comes (record { own = λ one. one.folder.now; name = λ one. one.name.now; strictness = λ one. one.strictness; stage = λ one. one.stage })
-    c.args.folder.now c.args.work.strictness (folder_data g.F.Folder g.F.File.Source) g.F.File.Source.left g.F.File.Source.failed_reads
+    (comes (record { own = λ one. one.folder.now; name = λ one. one.name.now; new = λ one. one.new_names.now; strictness = λ one. one.strictness; stage = λ one. one.stage })
+    c.args.folder.now c.args.work.new_names c.args.work.strictness (folder_data g.F.Folder g.F.File.Source) g.F.File.Source.left g.F.File.Source.failed_reads
     c.in-Ok.inputs.items c.in-Err-Collect.field-0 c.in-Err-Collect.ensures.unread c.in-Err-Collect.fault c.in-Err-Collect.field-0-is)
 
 pub returns-in-Err-Collect-clause-reported : goal.returns-in-Err-Collect-clause-reported
@@ -41,8 +41,8 @@ returns-in-Err-Collect-clause-reported g c =
     work_told (folder_data g.F.Folder g.F.File.Source c.args.folder.now) c.args.jobs (work_data c.args.work) _ _ _ _ _
     (ends_uncollected (folder_data g.F.Folder g.F.File.Source c.args.folder.now) c.args.jobs (work_data c.args.work) _ c.in-Err-Collect.fault
     (λ is. (c.in-Err-Collect.ensures.bad).0 (ap (λ fault. Err fault) (c.in-Err-Collect.field-0-is ∙ ap (λ fault. into_book.Collect fault) is)))
-    (may_come (record { own = λ one. one.folder.now; name = λ one. one.name.now; strictness = λ one. one.strictness; stage = λ one. one.stage })
-    c.args.folder.now c.args.work.strictness (folder_data g.F.Folder g.F.File.Source) g.F.File.Source.left g.F.File.Source.failed_reads
+    (may_come (record { own = λ one. one.folder.now; name = λ one. one.name.now; new = λ one. one.new_names.now; strictness = λ one. one.strictness; stage = λ one. one.stage })
+    c.args.folder.now c.args.work.new_names c.args.work.strictness (folder_data g.F.Folder g.F.File.Source) g.F.File.Source.left g.F.File.Source.failed_reads
     c.in-Ok.inputs.items c.in-Err-Collect.field-0 c.in-Err-Collect.ensures.unread (map string_bytes c.args.work.files.now) c.in-Err-Collect.fault c.in-Err-Collect.field-0-is
     c.in-Ok.ensures.names c.in-Ok.ensures.own)
     (c.end_for_collecting.ensures ∙ ap of_collecting c.in-Err-Collect.fault-is))
@@ -50,6 +50,6 @@ returns-in-Err-Collect-clause-reported g c =
 
 pub unreachable-requires : goal.unreachable-requires
 unreachable-requires g c =
-    none_unread (record { own = λ one. one.folder.now; name = λ one. one.name.now; strictness = λ one. one.strictness; stage = λ one. one.stage })
-    c.args.folder.now c.args.work.strictness (folder_data g.F.Folder g.F.File.Source) g.F.File.Source.left g.F.File.Source.failed_reads
+    none_unread (record { own = λ one. one.folder.now; name = λ one. one.name.now; new = λ one. one.new_names.now; strictness = λ one. one.strictness; stage = λ one. one.stage })
+    c.args.folder.now c.args.work.new_names c.args.work.strictness (folder_data g.F.Folder g.F.File.Source) g.F.File.Source.left g.F.File.Source.failed_reads
     c.in-Ok.inputs.items c.in-Err-Unread.field-0 c.in-Err-Unread.ensures.unread _ c.in-Err-Unread.field-0-is

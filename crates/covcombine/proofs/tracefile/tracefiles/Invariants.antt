@@ -8,5 +8,5 @@ use Rattle.covcombine.proofs.tracefile.tracefiles.Given as goal
 abbrev pub invariant-loop-name : goal.invariant-loop-name
 invariant-loop-name g l = record {
   names : map (λ i. i.name.now) l.inputs.items ≡ map string_bytes (take l.name-index l.names);
-  own : AllByRecursion (λ i. (i.folder.now ≡ l.folder) × (i.strictness ≡ l.strictness) × (i.stage ≡ Unopened)) l.inputs.items;
+  own : AllByRecursion (λ i. (i.folder.now ≡ l.folder) × (i.new_names.now ≡ l.new_names) × (i.strictness ≡ l.strictness) × (i.stage ≡ Unopened)) l.inputs.items;
 }
