@@ -21,12 +21,9 @@ use Rattle.covworkers.specs.declared.collect_fault.CollectFault.TheVariants as c
 use Rattle.covworkers.specs.declared.refused.RefusedInput.{RefusedInput}
 use Rattle.covworld.specs.Folder.{FolderData}
 use Rattle.covcombine.specs.Combine.{EndingData, Fails, Gives, GivenData, doubts, end_of, failure_status, failures, fails_for, given, is_whole, judged_by, overview_text, pattern_lines, unused_from, warnings}
-use Rattle.covcombine.specs.Combined.{Ends, of_call_fault, of_collecting}
-use Rattle.covcombine.specs.Messages.{call_fault_line}
+use Rattle.covcombine.specs.Combined.{Ends, of_collecting}
 use Rattle.covcombine.specs.Notes.{IsOfFile}
 use Rattle.covcombine.specs.Options.{CombineData}
-use Rattle.covcombine.specs.declared.call_fault.CallFault.{CallFault}
-use Rattle.covcombine.specs.declared.call_fault.CallFault.TheVariants.{ManyPatterns, LongPattern, NoRate, BadPath, BadTest, NoRoom, NoName, Twice, OneFile, UnreadList, LongList, NotText}
 use Rattle.covcombine.specs.declared.note.Note.{Note}
 
 abbrev parts : (warned tracefile overview missed : List ℕ) → GivenData
@@ -95,36 +92,6 @@ no_lines (b ∷ bs) is = let none : length (b ∷ bs) ≡ 0 = eqb-true (length (
 pub some_lines : (lines : List ℕ) → (length lines == 0) ≡ false → lines ≡ [] → ⊥
 some_lines [] is none = true≢false is
 some_lines (b ∷ bs) is none = omega (arith, ap (λ (l : List ℕ). length l) none)
-
--- ---- a call that isn't begun
-
--- every other fault than files that are expected and not named, and a list that can't be read
-pub other_fault : (expected : Option ℕ) (fault : CallFault) → ((number : ℕ) → expected ≡ Some number → fault ≡ NoName → ⊥) → ((list : _) → fault ≡ UnreadList list → ⊥)
-    → of_call_fault expected fault ≡ Fails 2 (call_fault_line fault)
-other_fault None (ManyPatterns option) named read = refl
-other_fault None (LongPattern option) named read = refl
-other_fault None (NoRate option word) named read = refl
-other_fault None (BadPath fault word) named read = refl
-other_fault None (BadTest test) named read = refl
-other_fault None (NoRoom option) named read = refl
-other_fault None NoName named read = refl
-other_fault None (Twice name) named read = refl
-other_fault None (OneFile first second) named read = refl
-other_fault None (UnreadList list) named read = absurd (read list refl)
-other_fault None (LongList list) named read = refl
-other_fault None (NotText list number) named read = refl
-other_fault (Some number) (ManyPatterns option) named read = refl
-other_fault (Some number) (LongPattern option) named read = refl
-other_fault (Some number) (NoRate option word) named read = refl
-other_fault (Some number) (BadPath fault word) named read = refl
-other_fault (Some number) (BadTest test) named read = refl
-other_fault (Some number) (NoRoom option) named read = refl
-other_fault (Some number) NoName named read = absurd (named number refl refl)
-other_fault (Some number) (Twice name) named read = refl
-other_fault (Some number) (OneFile first second) named read = refl
-other_fault (Some number) (UnreadList list) named read = absurd (read list refl)
-other_fault (Some number) (LongList list) named read = refl
-other_fault (Some number) (NotText list place) named read = refl
 
 -- ---- collecting
 

@@ -1,6 +1,6 @@
 -- Private steps: how a tracefile is read part by part, and what is refused before.
 use Rattle.std.specs.List.{AllByRecursion, flat_map, sum_by}
-use Rattle.std.specs.Prelude.{◌≡◌, ◌⊎◌, ◌+◌, ◌<◌, ◌≤◌, ℕ, Bool, List, [], length, map, Option, None, Some, Result, Ok, Err, Contains}
+use Rattle.std.specs.Prelude.{◌≡◌, ◌⊎◌, ◌+◌, ◌^◌, ◌<◌, ◌≤◌, ℕ, Bool, List, [], length, map, Option, None, Some, Result, Ok, Err, Contains}
 use Rattle.covcommand.specs.declared.asked.CombineOptions.{CombineOptions}
 use Rattle.covcommand.specs.declared.asked.Strictness.{Strictness}
 use Rattle.covcommand.specs.declared.asked.Strictness.TheVariants.{Lenient, Strict}
@@ -26,6 +26,8 @@ use Rattle.covworkers.specs.Work.{in_front}
 use Rattle.covworkers.specs.declared.late_fault.LateFault.{LateFault}
 use Rattle.covworkers.specs.declared.late_fault.LateFault.TheVariants as late
 use Rattle.covworld.specs.Folder.{FolderData}
+use Rattle.covworld.specs.Streams.{CanWrite}
+use Rattle.covworld.specs.World.{WorldData}
 use Rattle.covcombine.specs.FileNames.{AreApart, AreOneFile}
 use Rattle.covcombine.specs.Notes.{IsOfFile, note_of}
 use Rattle.covcombine.specs.Options.{AsksForOverview, IsCallFault, IsTwice}
@@ -143,6 +145,15 @@ of_piece pieces.Memory = stops.Memory
 abbrev pub of_block : BlockFault → Stop
 of_block blocks.Unreadable = stops.Ended Unreadable
 of_block blocks.Memory = stops.Memory
+
+-- ---- reports
+
+-- an ending can be reported, however often the input was read: no file is begun, and so few calls of the folder and of the sinks have
+-- failed that no count of them can overflow
+pub record CanReport (world : WorldData) : Type 0 where
+  pub begun : world.files.begun ≡ None
+  pub files : world.files.failed < 2 ^ 62
+  pub sinks : CanWrite world.sinks
 
 -- ---- options
 

@@ -53,6 +53,7 @@ ghost use Rattle.covworld.specs.World.{CanCall};
 ghost use Rattle.covcombine.specs.Combine.{EndingData};
 ghost use Rattle.covcombine.specs.Combined.{Ends, IsCombineCall, IsReported, MayEndWith};
 ghost use Rattle.covcombine.specs.ListSteps.{IsEarlyEnd};
+ghost use Rattle.covcombine.specs.Steps.{CanReport};
 ghost use Rattle.covcombine.specs.View.{ending_data, work_data};
 
 use crate::call_fault::WorkFault;
@@ -142,7 +143,7 @@ fn combine_files<
     file: Option<&str>,
     world: &mut World<P, I, O, E>,
 ) -> u8
-    requires { CanCall world.old }
+    requires { CanReport world.old }
     ensures input { world.new.input ≡ world.old.input }
     ensures reported { (ending : EndingData) × MayEndWith (folder_data F.Folder F.File.Source folder.now) options.now (map string_bytes names.now) strictness (option_map (λ name. name.now) file.entry) ending
         × IsReported (option_map (λ name. name.now) file.entry) ending result world.old world.new }
@@ -194,7 +195,7 @@ fn do_work<
     file: Option<&str>,
     world: &mut World<P, I, O, E>,
 ) -> u8
-    requires { CanCall world.old }
+    requires { CanReport world.old }
     ensures input { world.new.input ≡ world.old.input }
     ensures reported { (ending : EndingData) × Ends (folder_data F.Folder F.File.Source folder.now) jobs (work_data work.entry) ending
         × IsReported (option_map (λ name. name.now) file.entry) ending result world.old world.new }

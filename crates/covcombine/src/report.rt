@@ -5,10 +5,10 @@ ghost use Rattle.covsession.specs.Program.{words_of_fault};
 ghost use Rattle.covsession.specs.Session.{said as said_line};
 ghost use Rattle.covsession.specs.declared.session.fault.SessionFault.TheVariants as session_faults;
 ghost use Rattle.covworld.specs.Streams.{CanWrite, Complains, Withholds};
-ghost use Rattle.covworld.specs.World.{CanCall};
 ghost use Rattle.covcombine.specs.Combine.{EndingData, Gives};
 ghost use Rattle.covcombine.specs.Combined.{IsPrinted, IsReported, given_status as status_for, out_of_memory};
 ghost use Rattle.covcombine.specs.Messages.{cut_line};
+ghost use Rattle.covcombine.specs.Steps.{CanReport};
 ghost use Rattle.covcombine.specs.View.{ending_data, given_data};
 
 use crate::ending::{Ending, Given};
@@ -28,7 +28,7 @@ pub(crate) fn report<P: OutputFolder, I: Source, O: Sink, E: Sink, T: Table<Glob
     file: Option<&str>,
     world: &mut World<P, I, O, E>,
 ) -> u8
-    requires { CanCall world.old }
+    requires { CanReport world.old }
     ensures input { world.new.input ≡ world.old.input }
     ensures reported { (told : EndingData) × ((told ≡ out_of_memory) ⊎ (told ≡ ending_data ending.entry))
         × IsReported (option_map (λ name. name.now) file.entry) told result world.old world.new }
@@ -67,7 +67,7 @@ fn write_tracefile<P: OutputFolder, I: Source, O: Sink, E: Sink, T: Table<Global
     given: Given<'_, T>,
     world: &mut World<P, I, O, E>,
 ) -> u8
-    requires { CanCall world.old }
+    requires { CanReport world.old }
     ensures input { world.new.input ≡ world.old.input }
     ensures reported { (told : EndingData) × ((told ≡ out_of_memory) ⊎ (told ≡ Gives (given_data given.entry)))
         × IsReported (Some name.now) told result world.old world.new }
