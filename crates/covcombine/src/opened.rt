@@ -138,10 +138,11 @@ pub(crate) fn open_file<F: Folder>(
         Some(kind) => Err(Stop::Ended(Note::Strange(kind))),
         None => {
             let begun = first.copy(alloc)?;
+            let used = UsedRules::none(alloc, new_names.rules().len())?;
             Ok(Opened {
                 first,
                 counts: Counts::none(),
-                used: UsedRules::none(alloc, new_names.rules().len())?,
+                used,
                 rest: begin(alloc, strictness, begun, source),
             })
         }
