@@ -23,7 +23,7 @@ use Rattle.covreport.specs.declared.patterns.PatternFault.TheVariants as pattern
 use Rattle.covtable.proofs.Members.{All-in, In, In-from}
 use Rattle.covworld.specs.Folder.{FolderData}
 use Rattle.covcombine.specs.Options.{AreRulesOf, IsCallFault, IsOneFile, choice_by, limit_in, patterns_in}
-use Rattle.covcombine.specs.Steps.{AreNames, ArePatterns, HasRoom, IsNameFault, IsNewNameFault, IsOneFileFault, IsPatternFault, IsRateFault, IsRoomFault, IsTestFault, IsWordFault, IsWorkFault, of_pattern}
+use Rattle.covcombine.specs.Steps.{AreNames, ArePatterns, HasRoom, IsNameFault, IsNewNameFault, IsOneFileFault, IsPatternFault, IsRateFault, IsRoomFault, IsWordFault, IsWorkFault, of_pattern}
 use Rattle.covcombine.specs.declared.call_fault.CallFault.{CallFault}
 use Rattle.covcombine.specs.declared.call_fault.CallFault.TheVariants.{ManyPatterns, LongPattern, NoRate, BadPath, BadTest, NoRoom, NoName, Twice, OneFile, UnreadList, LongList, NotText}
 use Rattle.covcombine.specs.declared.call_fault.CallOption.{CallOption}

@@ -1,5 +1,5 @@
 -- Private steps: why a list of names isn't taken, and how such a call ends.
-use Rattle.std.specs.Prelude.{◌≡◌, ◌⊎◌, ◌<◌, ℕ, suc, List, [], ◌∷◌, codes, length, option_map, slice_get, ◌==◌, if◌then◌else◌, Option, None, Some}
+use Rattle.std.specs.Prelude.{◌≡◌, ◌⊎◌, ℕ, suc, List, [], ◌∷◌, option_map, slice_get, ◌==◌, if◌then◌else◌, Option, None, Some}
 use Rattle.std.specs.Str.{IsUtf8}
 use Rattle.std.specs.String.{string_bytes}
 use Rattle.covcommand.specs.declared.asked.CombineOptions.{CombineOptions}
@@ -11,8 +11,7 @@ use Rattle.covworld.specs.Folder.{FolderData, IsTextOf}
 use Rattle.covworld.specs.Streams.{SourceData}
 use Rattle.covcombine.specs.Combine.{EndingData}
 use Rattle.covcombine.specs.Combined.{IsListFault, IsUnreadAt, MayRead, MayReadAt, of_call_fault, out_of_memory}
-use Rattle.covcombine.specs.FileNames.{ListPlace, InInput, InFile, cut_at, end_byte, name_of_list, place_of}
-use Rattle.covcombine.specs.declared.call_fault.CallFault.{CallFault}
+use Rattle.covcombine.specs.FileNames.{ListPlace, InInput, InFile, cut_at, end_byte, name_of_list}
 use Rattle.covcombine.specs.declared.call_fault.CallFault.TheVariants.{NotText}
 use Rattle.covcombine.specs.declared.call_fault.WorkFault.{WorkFault}
 use Rattle.covcombine.specs.declared.call_fault.WorkFault.TheVariants as works

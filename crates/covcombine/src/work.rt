@@ -1,6 +1,6 @@
 //! The work of a call, made of its options.
 
-ghost use Rattle.std.specs.Prelude.{◌≡◌, ℕ, List, Option, Some, map, option_map, IfOk, IfErr, IfSome};
+ghost use Rattle.std.specs.Prelude.{◌≡◌, List, Option, Some, map, option_map, IfOk, IfErr, IfSome};
 ghost use Rattle.std.specs.String.{string_bytes};
 ghost use Rattle.covlimit.specs.LimitsView.{limits_data};
 ghost use Rattle.covlimit.specs.Rates.{IsRate};
