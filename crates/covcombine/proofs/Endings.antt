@@ -14,16 +14,15 @@ use Rattle.covreport.specs.Summary.{summary_of}
 use Rattle.covtable.specs.Content.{SectionData, content_at}
 use Rattle.covtable.specs.Files.{FileTotalsData, files_with_totals}
 use Rattle.covtable.specs.declared.totals.Totals.{Totals}
-use Rattle.covworkers.specs.Late.{FillHistory, IsCollectedSoFar, MayCome}
-use Rattle.covworkers.specs.Start.{AreJobs}
+use Rattle.covworkers.specs.Late.{MayComeAtAll}
 use Rattle.covworkers.specs.declared.collect_fault.CollectFault.{CollectFault}
 use Rattle.covworkers.specs.declared.collect_fault.CollectFault.TheVariants as collects
 use Rattle.covworkers.specs.declared.refused.RefusedInput.{RefusedInput}
 use Rattle.covworld.specs.Folder.{FolderData}
 use Rattle.covcombine.specs.Combine.{EndingData, Fails, Gives, GivenData, doubts, end_of, failure_status, failures, fails_for, given, is_whole, judged_by, overview_text, pattern_lines, unused_from, warnings}
 use Rattle.covcombine.specs.Combined.{Ends, of_collecting}
-use Rattle.covcombine.specs.Notes.{IsOfFile}
 use Rattle.covcombine.specs.Options.{CombineData}
+use Rattle.covcombine.specs.Steps.{AreCollected, StopsCollecting}
 use Rattle.covcombine.specs.declared.note.Note.{Note}
 
 abbrev parts : (warned tracefile overview missed : List ℕ) → GivenData
@@ -96,9 +95,17 @@ some_lines (b ∷ bs) is none = omega (arith, ap (λ (l : List ℕ). length l) n
 -- ---- collecting
 
 pub ends_collected : (folder : FolderData) (jobs : ℕ) (work : CombineData) (ending : EndingData) (entries : List EntryData) (notes : List (RefusedInput Note))
-    → IsCollectedSoFar (IsOfFile folder work.new work.strictness) work.files jobs entries notes → ending ≡ end_of work entries notes → Ends folder jobs work ending
+    → AreCollected folder jobs work entries notes → ending ≡ end_of work entries notes → Ends folder jobs work ending
 ends_collected folder jobs work ending entries notes collected is = inr (inr (entries, notes, collected, is))
 
-pub ends_uncollected : (folder : FolderData) (jobs : ℕ) (work : CombineData) (ending : EndingData) (fault : CollectFault) → (fault ≡ collects.BadJobs → AreJobs jobs → ⊥)
-    → MayCome (FillHistory (IsOfFile folder work.new work.strictness) work.files) fault → ending ≡ of_collecting fault → Ends folder jobs work ending
-ends_uncollected folder jobs work ending fault bad may is = inr (inl (fault, bad, may, is))
+pub ends_uncollected : (folder : FolderData) (jobs : ℕ) (work : CombineData) (ending : EndingData) (fault : CollectFault) → StopsCollecting folder jobs work fault
+    → ending ≡ of_collecting fault → Ends folder jobs work ending
+ends_uncollected folder jobs work ending fault (bad, may) is = inr (inl (fault, bad, may, is))
+
+-- neither `Gather` nor `NotLast` comes, whatever fills the history
+pub stop_comes : (folder : FolderData) (jobs : ℕ) (work : CombineData) (fault : CollectFault) → StopsCollecting folder jobs work fault → MayComeAtAll fault
+stop_comes folder jobs work collects.BadJobs (bad, may) = tt
+stop_comes folder jobs work collects.Full (bad, may) = tt
+stop_comes folder jobs work collects.Memory (bad, may) = tt
+stop_comes folder jobs work (collects.Gather fault) (bad, may) = absurd may
+stop_comes folder jobs work collects.NotLast (bad, may) = absurd may

@@ -7,7 +7,7 @@ use Rattle.covbook.specs.Step.{max_entries, next_entry}
 use Rattle.covcommand.specs.declared.asked.Strictness.{Strictness}
 use Rattle.covpaths.specs.Names.{NamesData}
 use Rattle.covworkers.specs.Collect.{AreOutcomes, IsCollectedWith, OutcomeData, all_places, submissions_of}
-use Rattle.covworkers.specs.Late.{FillHistory, IsCollectedSoFar, IsFirstUnread, IsIntoBookFault, MayCome, MayComeAtAll}
+use Rattle.covworkers.specs.Late.{FillHistory, IsCollectedSoFar, IsFirstUnread, IsIntoBookFault, MayCome}
 use Rattle.covworkers.specs.declared.book_fault.IntoBookFault.{IntoBookFault}
 use Rattle.covworkers.specs.declared.book_fault.IntoBookFault.TheVariants as into_book
 use Rattle.covworkers.specs.declared.collect_fault.CollectFault.{CollectFault}
@@ -35,13 +35,6 @@ AreOwn view at new strictness inputs =
 
 abbrev pub GivesIn : {X Folder S : Type 0} → InputView X Folder S → (of : Folder → FolderData) → (left : S → Option (List ℕ)) → (failed_reads : S → ℕ) → X → OutcomeData Note → Type 0
 GivesIn view of left failed_reads one = MayGiveFrom left failed_reads (of (view.own one)) (view.new one) (view.strictness one) (view.name one) (view.stage one)
-
-at_all : (Fill : Type 0) (fault : CollectFault) → MayCome Fill fault → MayComeAtAll fault
-at_all Fill collects.BadJobs may = tt
-at_all Fill collects.Full may = tt
-at_all Fill collects.Memory may = tt
-at_all Fill (collects.Gather fault) may = absurd may
-at_all Fill collects.NotLast may = absurd may
 
 no_first : {X : Type 0} (MayGive : X → OutcomeData Note → Type 0) (inputs : List X) (index : ℕ) → IsFirstUnread MayGive (λ one. ⊥) inputs index → ⊥
 no_first MayGive [] index (fails, read) = fails
@@ -103,10 +96,6 @@ module _ {X Folder S : Type 0} (view : InputView X Folder S) (at : Folder) (new 
     pub may_come : (names : List (List ℕ)) (fault : CollectFault) → found ≡ into_book.Collect fault → map view.name inputs ≡ names → AreOwn view at new strictness inputs
         → MayCome (FillHistory (IsOfFile (of at) new strictness) names) fault
     may_come names fault is named own = of_inputs inputs names fault named own (told fault is)
-
-    -- neither `Gather` nor `NotLast` comes, whatever fills the history
-    pub comes : (fault : CollectFault) → found ≡ into_book.Collect fault → MayComeAtAll fault
-    comes fault is = at_all (FillHistory (GivesIn view of left failed_reads) inputs) fault (told fault is)
 
     -- no input turns out to be unreadable
     pub none_unread : (index : ℕ) → found ≡ into_book.Unread index → ⊥

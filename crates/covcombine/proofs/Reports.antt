@@ -136,7 +136,7 @@ list_read folder list byte before after (Twice name) none = absurd none
 list_read folder list byte before after (OneFile first second) none = absurd none
 list_read folder list byte before after (UnreadList told) is = unread_at folder (place_of list) before after is.1
 list_read folder list byte before after (LongList told) is = long_at folder (place_of list) before after is.1
-list_read folder list byte before after (NotText told number) (named, text, read, fault) = text_at folder (place_of list) text before after read
+list_read folder list byte before after (NotText told number) is = text_at folder (place_of list) is.1 before after is.2
 
 module _ (folder : FolderData) (options : CombineOptions) (before after : SourceData) where
   unnamed_memory : (list : Option (List ℕ)) (ending : EndingData) → MayRead list before after → ending ≡ out_of_memory → StopsUnnamed folder options list ending before after

@@ -1,6 +1,7 @@
 -- Private steps: how a tracefile is read part by part, and what is refused before.
 use Rattle.std.specs.List.{AllByRecursion, flat_map, sum_by}
 use Rattle.std.specs.Prelude.{◌≡◌, ◌⊎◌, ◌+◌, ◌^◌, ◌<◌, ◌≤◌, ℕ, Bool, List, [], length, map, Option, None, Some, Result, Ok, Err, Contains}
+use Rattle.covbook.specs.Op.{EntryData}
 use Rattle.covcommand.specs.declared.asked.CombineOptions.{CombineOptions}
 use Rattle.covcommand.specs.declared.asked.Strictness.{Strictness}
 use Rattle.covcommand.specs.declared.asked.Strictness.TheVariants.{Lenient, Strict}
@@ -22,15 +23,20 @@ use Rattle.covreport.specs.declared.patterns.PatternFault.TheVariants as pattern
 use Rattle.covstream.specs.declared.fault.BlockFault.{BlockFault}
 use Rattle.covstream.specs.declared.fault.BlockFault.TheVariants as blocks
 use Rattle.covworkers.specs.Collect.{OutcomeData}
+use Rattle.covworkers.specs.Late.{FillHistory, IsCollectedSoFar, MayCome}
+use Rattle.covworkers.specs.Start.{AreJobs}
 use Rattle.covworkers.specs.Work.{in_front}
+use Rattle.covworkers.specs.declared.collect_fault.CollectFault.{CollectFault}
+use Rattle.covworkers.specs.declared.collect_fault.CollectFault.TheVariants as collects
 use Rattle.covworkers.specs.declared.late_fault.LateFault.{LateFault}
 use Rattle.covworkers.specs.declared.late_fault.LateFault.TheVariants as late
+use Rattle.covworkers.specs.declared.refused.RefusedInput.{RefusedInput}
 use Rattle.covworld.specs.Folder.{FolderData}
 use Rattle.covworld.specs.Streams.{CanWrite}
 use Rattle.covworld.specs.World.{WorldData}
 use Rattle.covcombine.specs.FileNames.{AreApart, AreOneFile}
 use Rattle.covcombine.specs.Notes.{IsOfFile, note_of}
-use Rattle.covcombine.specs.Options.{AsksForOverview, IsCallFault, IsTwice}
+use Rattle.covcombine.specs.Options.{AsksForOverview, CombineData, IsCallFault, IsTwice}
 use Rattle.covcombine.specs.declared.call_fault.CallFault.TheVariants.{ManyPatterns, LongPattern, NoRate, BadPath, BadTest, NoRoom, NoName, Twice, OneFile}
 use Rattle.covcombine.specs.declared.call_fault.CallOption.{CallOption}
 use Rattle.covcombine.specs.declared.call_fault.WorkFault.{WorkFault}
@@ -145,6 +151,18 @@ of_piece pieces.Memory = stops.Memory
 abbrev pub of_block : BlockFault → Stop
 of_block blocks.Unreadable = stops.Ended Unreadable
 of_block blocks.Memory = stops.Memory
+
+-- ---- collecting
+
+-- this history and these notes are collected of the files by this number of jobs
+abbrev pub AreCollected : FolderData → (jobs : ℕ) → CombineData → List EntryData → List (RefusedInput Note) → Type 0
+AreCollected folder jobs work entries notes = IsCollectedSoFar (IsOfFile folder work.new work.strictness) work.files jobs entries notes
+
+-- collecting may stop for this reason: not for the number of jobs unless that is out of range, and not for a full history unless the
+-- files fill it
+abbrev pub StopsCollecting : FolderData → (jobs : ℕ) → CombineData → CollectFault → Type 0
+StopsCollecting folder jobs work fault =
+    (fault ≡ collects.BadJobs → AreJobs jobs → ⊥) × MayCome (FillHistory (IsOfFile folder work.new work.strictness) work.files) fault
 
 -- ---- reports
 

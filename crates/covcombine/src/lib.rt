@@ -46,27 +46,28 @@ mod stranger;
 mod tracefile;
 mod work;
 
-ghost use Rattle.std.specs.Prelude.{◌≡◌, map, option_map};
+ghost use Rattle.std.specs.Prelude.{◌≡◌, map, option_map, IfOk, IfErr};
 ghost use Rattle.std.specs.String.{string_bytes};
 ghost use Rattle.covworld.specs.Folder.{folder_data};
 ghost use Rattle.covworld.specs.World.{CanCall};
 ghost use Rattle.covcombine.specs.Combine.{EndingData};
 ghost use Rattle.covcombine.specs.Combined.{Ends, IsCombineCall, IsReported, MayEndWith};
 ghost use Rattle.covcombine.specs.ListSteps.{IsEarlyEnd};
-ghost use Rattle.covcombine.specs.Steps.{CanReport};
+ghost use Rattle.covcombine.specs.Steps.{AreCollected, CanReport, StopsCollecting};
 ghost use Rattle.covcombine.specs.View.{ending_data, work_data};
 
 use crate::call_fault::WorkFault;
 use crate::ending::{Ending, end_for_collecting, end_for_fault, end_of, no_memory};
 use crate::file_names::names_of;
 use crate::jobs::jobs_for;
+use crate::note::Note;
 use crate::report::report;
 use crate::tracefile::tracefiles;
 use crate::work::{Work, work_of};
 use covcommand::{CombineOptions, Progress, Strictness};
 use covreport::Table;
 use covstream::{Sink, Source};
-use covworkers::{IntoBookFault, NoGate, collect_into_book};
+use covworkers::{CollectFault, CollectedBook, IntoBookFault, NoGate, collect_into_book};
 use covworld::{Folder, OutputFolder, World};
 use std::alloc::Global;
 use std::sync::Wait;
@@ -200,14 +201,11 @@ fn do_work<
     ensures reported { (ending : EndingData) × Ends (folder_data F.Folder F.File.Source folder.now) jobs (work_data work.entry) ending
         × IsReported (option_map (λ name. name.now) file.entry) ending result world.old world.new }
 {
-    let Ok(inputs) = tracefiles(folder, alloc, &work.new_names, work.strictness, work.files) else {
-        return report::<P, I, O, E, T>(alloc, no_memory(), file, world);
-    };
     let shows = shows_progress(work.progress);
     if shows {
         folder.begin_reading(work.files);
     }
-    let collected = collect_into_book(rt, alloc, inputs, jobs, &NoGate);
+    let collected = collect_files::<R, F, T>(rt, folder, alloc, &work, jobs);
     if shows {
         folder.end_reading();
     }
@@ -216,11 +214,7 @@ fn do_work<
             Ok(ending) => report(alloc, ending, file, world),
             Err(_) => report::<P, I, O, E, T>(alloc, no_memory(), file, world),
         },
-        Err(IntoBookFault::Collect(fault)) => {
-            report::<P, I, O, E, T>(alloc, end_for_collecting(fault), file, world)
-        }
-        // A file that can't be read has a note.
-        Err(IntoBookFault::Unread { .. }) => unreachable!(),
+        Err(fault) => report::<P, I, O, E, T>(alloc, end_for_collecting(fault), file, world),
     }
 }
 
@@ -229,5 +223,31 @@ fn shows_progress(progress: Progress) -> bool {
     match progress {
         Progress::Shown => true,
         Progress::Quiet => false,
+    }
+}
+
+/// Collects the files of `work` in a book, with this number of jobs.
+fn collect_files<
+    R: Threads + Wait + Sync,
+    F: Folder<File: Send> + Sync,
+    T: Table<Global, Plan: Send, Renaming: Send> + Send,
+>(
+    rt: &R,
+    folder: &F,
+    alloc: Global,
+    work: &Work<'_>,
+    jobs: u32,
+) -> Result<CollectedBook<T, Note>, CollectFault>
+    ensures collected { IfOk result (λ c. AreCollected (folder_data F.Folder F.File.Source folder.now) jobs (work_data work.now) c.book.entries c.refused) }
+    ensures stopped { IfErr result (StopsCollecting (folder_data F.Folder F.File.Source folder.now) jobs (work_data work.now)) }
+{
+    let Ok(inputs) = tracefiles(folder, alloc, &work.new_names, work.strictness, work.files) else {
+        return Err(CollectFault::Memory);
+    };
+    match collect_into_book(rt, alloc, inputs, jobs, &NoGate) {
+        Ok(collected) => Ok(collected),
+        Err(IntoBookFault::Collect(fault)) => Err(fault),
+        // A file that can't be read has a note.
+        Err(IntoBookFault::Unread { .. }) => unreachable!(),
     }
 }

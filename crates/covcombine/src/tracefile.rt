@@ -13,15 +13,15 @@ use std::alloc::Global;
 /// A file that is read in chunks when its turn comes. Collecting gets its note as the error with which the file ends, after all
 /// chunks of a good file too.
 #[derive(Drop)]
-pub(crate) struct Tracefile<'a, F: Folder> {
+pub(crate) struct Tracefile<'a, 'n, F: Folder> {
     folder: &'a F,
     name: &'a str,
-    new_names: &'a NewNames<'a>,
+    new_names: &'a NewNames<'n>,
     strictness: Strictness,
     stage: Stage<F::File>,
 }
 
-impl<'a, F: Folder> LateInput<Global> for Tracefile<'a, F> {
+impl<'a, 'n, F: Folder> LateInput<Global> for Tracefile<'a, 'n, F> {
     ghost use Rattle.covcombine.specs.Steps.{MayGiveFrom, most_parts};
     ghost use Rattle.covworld.specs.Folder.{folder_data};
 
@@ -83,13 +83,13 @@ fn opened_at<F: Folder>(
 }
 
 /// Makes an input for each of the files called `names`, in order. Opens no file yet.
-pub(crate) fn tracefiles<'a, F: Folder>(
+pub(crate) fn tracefiles<'a, 'n, F: Folder>(
     folder: &'a F,
     alloc: Global,
-    new_names: &'a NewNames<'a>,
+    new_names: &'a NewNames<'n>,
     strictness: Strictness,
     names: &'a [String],
-) -> Result<Vec<Tracefile<'a, F>>, Memory>
+) -> Result<Vec<Tracefile<'a, 'n, F>>, Memory>
     ensures names { IfOk result (λ inputs. map (λ i. i.name.now) inputs.items ≡ map string_bytes names.now) }
     ensures own { IfOk result (λ inputs. AllByRecursion (λ i. (i.folder.now ≡ folder.now) × (i.new_names.now ≡ new_names.entry.now) × (i.strictness ≡ strictness) × (i.stage ≡ Unopened)) inputs.items) }
 {
