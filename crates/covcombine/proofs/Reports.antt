@@ -186,26 +186,33 @@ reported_on file ending status old middle new files sinks reported =
     go None (Gives given) is = is
     go (Some name) (Gives given) is = is
 
-module _ (folder : FolderData) (options : CombineOptions) (strictness : Strictness) (file : Option (List ℕ)) (status : ℕ) (old middle new : WorldData)
-    (files : middle.files ≡ old.files) (sinks : middle.sinks ≡ old.sinks) (input : new.input ≡ middle.input) where
+module _ (folder : FolderData) (options : CombineOptions) (strictness : Strictness) (file : Option (List ℕ)) (status : ℕ) (old middle new : WorldData) (before : SourceData)
+    (files : middle.files ≡ old.files) (sinks : middle.sinks ≡ old.sinks) (unread : before ≡ old.input) (input : new.input ≡ middle.input) where
   -- a call that has the names of its files
-  pub call_named : (names : List (List ℕ)) → AreNamesOf folder options names old.input middle.input
-      → ((ending : EndingData) × MayEndWith folder options names strictness file ending × IsReported file ending status middle new)
+  pub call_named : (names looked : List (List ℕ)) → AreNamesOf folder options names before middle.input → looked ≡ names
+      → ((ending : EndingData) × MayEndWith folder options looked strictness file ending × IsReported file ending status middle new)
       → IsCombineCall folder options strictness file status old new
-  call_named names are (ending, may, reported) = (
+  call_named names looked are same (ending, may, reported) = (
     ending,
-    inr (names, subst (λ (i : SourceData). AreNamesOf folder options names old.input i) (sym input) are, may),
+    inr (
+      looked,
+      subst (λ (ns : List (List ℕ)). AreNamesOf folder options ns old.input new.input) (sym same)
+          (subst (λ (i : SourceData). AreNamesOf folder options names i new.input) unread
+          (subst (λ (i : SourceData). AreNamesOf folder options names before i) (sym input) are)),
+      may,
+    ),
     reported_on file ending status old middle new files sinks reported,
   )
 
   -- a call that doesn't have them
-  pub call_unnamed : (fault : WorkFault) (early : EndingData) → IsNamesStop folder options old.input middle.input fault → IsEarlyEnd options.expected fault early
+  pub call_unnamed : (fault : WorkFault) (early : EndingData) → IsNamesStop folder options before middle.input fault → IsEarlyEnd options.expected fault early
       → IsTold file early status middle new → IsCombineCall folder options strictness file status old new
   call_unnamed fault early stops ends told =
       let (ending, may, reported) =
-      unnamed_told folder options old.input middle.input (option_map string_bytes options.list) file early status middle new
-      (stops_unnamed folder options old.input middle.input fault early stops ends) told in (
+      unnamed_told folder options before middle.input (option_map string_bytes options.list) file early status middle new
+      (stops_unnamed folder options before middle.input fault early stops ends) told in (
         ending,
-        inl (subst (λ (i : SourceData). StopsUnnamed folder options (option_map string_bytes options.list) ending old.input i) (sym input) may),
+        inl (subst (λ (i : SourceData). StopsUnnamed folder options (option_map string_bytes options.list) ending i new.input) unread
+            (subst (λ (i : SourceData). StopsUnnamed folder options (option_map string_bytes options.list) ending before i) (sym input) may)),
         reported_on file ending status old middle new files sinks reported,
       )
