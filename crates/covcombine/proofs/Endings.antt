@@ -1,5 +1,5 @@
 -- Which ending a call has, from the results of its steps.
-use Rattle.std.proofs.Common.{◌≡◌, ◌==◌, inl, inr, ℕ, Bool, true, false, true≢false, List, [], ◌∷◌, ◌++◌, length, Option, Some, None, Result, IfOk, OnOk, if◌then◌else◌, append_assoc, refl, sym, ap, subst, ◌∙◌, arith}
+use Rattle.std.proofs.Common.{◌≡◌, ◌==◌, inl, inr, ℕ, Bool, true, false, true≢false, List, [], ◌∷◌, ◌++◌, length, Result, IfOk, OnOk, if◌then◌else◌, append_assoc, refl, sym, ap, subst, ◌∙◌, arith}
 use Rattle.std.proofs.lemmas.Bool.{eqb-true}
 use Rattle.covbook.specs.Op.{EntryData}
 use Rattle.covbook.specs.Step.{ops_in, table_of}

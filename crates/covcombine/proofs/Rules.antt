@@ -1,5 +1,5 @@
 -- Lines about rules for paths that were applied to no source file, rule by rule.
-use Rattle.std.proofs.Common.{◌≡◌, ℕ, ◌+◌, ◌<◌, Bool, true, false, List, [], ◌∷◌, ◌++◌, length, get_or, drop, drop-cons, add-one, append_assoc, if◌then◌else◌, sym, ap, ◌∙◌}
+use Rattle.std.proofs.Common.{◌≡◌, ℕ, ◌+◌, ◌<◌, Bool, true, false, List, [], ◌++◌, length, get_or, drop, drop-cons, add-one, append_assoc, if◌then◌else◌, sym, ap, ◌∙◌}
 use Rattle.covpaths.specs.Paths.{RuleData}
 use Rattle.covworkers.specs.declared.refused.RefusedInput.{RefusedInput}
 use Rattle.covcombine.specs.Combine.{is_used, unused_from}

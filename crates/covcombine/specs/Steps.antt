@@ -10,7 +10,6 @@ use Rattle.covdata.specs.Row.{SubmissionData, items_in}
 use Rattle.covdata.specs.declared.fault.ReadFault.{ReadFault}
 use Rattle.covlarge.specs.Large.{max_pieces}
 use Rattle.covlarge.specs.State.{MayFailFrom, MayGive}
-use Rattle.covlarge.specs.StateData.{StateData}
 use Rattle.covlarge.specs.Summary.{SummaryData, told_number}
 use Rattle.covlarge.specs.declared.fault.PieceFault.{PieceFault}
 use Rattle.covlarge.specs.declared.fault.PieceFault.TheVariants as pieces
