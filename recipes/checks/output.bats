@@ -65,11 +65,12 @@ onto_disk() { # HOW
     only 'covcollect -o: nothing else is left' . a.info b.info c.info wanted
 }
 
-# A merge in so many KiB, into a file that nobody looks at if it is wanted that it succeeds.
+# A merge in so many KiB onto a.info, in a copy of the folder if it is wanted that it succeeds. The name is the same in both, since a longer
+# one takes more memory.
 merge_within() { # KIB FILE
-    local out=a.info
-    [ "$1" -lt "$least" ] || out=$work/enough.info
-    call bash -c 'ulimit -v "$1"; exec "$COVCOLLECT" merge -o "$2" "$3"' - "$1" "$out" "$2"
+    local folder=.
+    [ "$1" -lt "$least" ] || folder=$work/enough
+    call bash -c 'cd "$3" && ulimit -v "$1" && exec "$COVCOLLECT" merge -o a.info "$2"' - "$1" "$2" "$folder"
 }
 # The least memory in which the program merges a file, in steps of 16 KiB. What the program takes may change with it.
 least_memory() { # FILE
@@ -89,6 +90,7 @@ least_memory() { # FILE
     printf 'SF:/src/a.c\nDA:1,1,x\nend_of_record\n' >x.info
     printf 'SF:/src/a.c\nDA:1,1,y\nend_of_record\n' >y.info
     cp -r . "$work/before"
+    cp -r . "$work/enough"
     call "$COVCOLLECT" merge -o a.info a.info none.info
     ended 1 'merge -o: an input is missing'
     says "$work/err" 'merge -o: which is told' "none.info: can't read"
