@@ -4,6 +4,10 @@ pub mod Opening
 pub mod Stages
 pub mod Files
 pub mod Twice
+pub mod Taken
+pub mod Apart
+pub mod Cuts
+pub mod Listing
 pub mod Rules
 pub mod Endings
 pub mod Reports
