@@ -283,6 +283,11 @@ pub(crate) const FAIL_UNDER_BRANCHES: &str = "Status 6 if less than N% of branch
 /// The help of `--output` for `html`.
 pub(crate) const FOLDER: &str = "Folder for the pages: new, empty, or of html";
 
+/// The help of `--html`.
+pub(crate) const PAGES: &str = "\
+Write pages into DIR too: new, empty, or of
+html";
+
 /// The help of `--title`.
 pub(crate) const TITLE: &str = "Title of the index; Coverage without it";
 

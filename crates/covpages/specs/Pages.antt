@@ -1,5 +1,6 @@
 -- The folder that `html` writes.
 use Rattle.std.specs.Prelude.{◌≡◌, ◌⊎◌, ℕ, ◌+◌, Bool, true, false, not, ◌==◌, Option, List, [], ◌∷◌, ◌++◌, length, codes, nat_le, if◌then◌else◌, unwrap_or}
+use Rattle.covcommand.specs.declared.asked.PageTexts.{PageTexts}
 use Rattle.covcommand.specs.declared.asked.Strictness.{Strictness}
 use Rattle.covcommand.specs.declared.asked.Strictness.TheVariants.{Lenient, Strict}
 use Rattle.covhtml.specs.DirectoryPages.{IndexedDirectoryData, directory_index, directory_page, directory_page_name}
@@ -37,6 +38,18 @@ pub record PagesWorkData : Type 1 where
   pub choice : ChoiceData
   pub strictness : Strictness
   pub sources : FolderData
+
+-- the work that these texts ask for. `sources`: the folder that has the source files
+abbrev pub pages_work : (sources : FolderData) → (folder : List ℕ) → PageTexts → ChoiceData → Strictness → PagesWorkData
+pages_work sources folder texts choice strictness = record {
+  folder = folder;
+  title = texts.title;
+  date = texts.date;
+  rules = texts.sources;
+  choice = choice;
+  strictness = strictness;
+  sources = sources;
+}
 
 -- the source files that are shown, each with its totals: those of a list
 abbrev pub files_shown : PagesWorkData → List SectionData → List FileTotalsData

@@ -24,7 +24,7 @@ use crate::listed::{Entry, Linked};
 use crate::page::Page;
 use crate::source_rule::located;
 use crate::source_text::{Source, put_complaint, read_source};
-use covcommand::{PageOptions, Strictness};
+use covcommand::{PageTexts, Strictness};
 use covdata::{Bytes, Memory};
 use covhtml::{
     Directory, DirectoryIndex, IndexPage, Points, PointsTable, Row, SourcePage, TestTotals,
@@ -46,8 +46,10 @@ const TITLE: &[u8] = b"Coverage";
 pub struct PagesWork<'w, F, T> {
     /// The allocator.
     pub alloc: Global,
-    /// The folder for the pages, their texts, and where source files lie.
-    pub options: &'w PageOptions,
+    /// The name of the folder for the pages.
+    pub folder: &'w str,
+    /// The texts of the pages, and where source files lie.
+    pub options: &'w PageTexts,
     /// The source files that are shown.
     pub choice: &'w Choice,
     /// Whether source files whose text can't be shown are refused.
@@ -99,7 +101,7 @@ pub fn write_pages<F: Folder, T: PointsTable<Global>, P: FolderWriter>(
     ensures unnamed { OnErr result (P.names files.new ≡ P.names files.old) }
     ensures none { P.begun files.new ≡ None }
 {
-    let (mut report, place) = files.begin_folder(work.options.folder.as_str())?;
+    let (mut report, place) = files.begin_folder(work.folder)?;
     match write_report(work, &mut report) {
         Ok(warnings) => {
             files.finish_folder(report, place)?;
@@ -366,7 +368,7 @@ fn push_linked<'d>(linked: &mut Vec<Linked<'d>>, last: Linked<'d>) -> Result<(),
 }
 
 /// The title of the index.
-fn title_of(options: &PageOptions) -> &[u8]
+fn title_of(options: &PageTexts) -> &[u8]
     ensures { result.now ≡ unwrap_or options.now.title (codes "Coverage") }
 {
     match &options.title {
@@ -376,7 +378,7 @@ fn title_of(options: &PageOptions) -> &[u8]
 }
 
 /// The date of the index, if one is given.
-fn date_of(options: &PageOptions) -> Option<&[u8]>
+fn date_of(options: &PageTexts) -> Option<&[u8]>
     ensures { option_map (λ d. d.now) result ≡ options.now.date }
 {
     match &options.date {
