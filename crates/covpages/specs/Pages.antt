@@ -179,6 +179,18 @@ IsPagesFault work sections (faults.Refused lines) =
     × (lines ≡ complaints_of work (files_shown work sections) sources))
 IsPagesFault work sections faults.Memory = Unit {0}
 
+-- pages weren't written for this reason, and no file was finished
+abbrev pub AreUnwritten : PagesWorkData → List SectionData → PagesFault → (files files_after : OutputFilesData) → Type 0
+AreUnwritten work sections fault files after =
+    IsPagesFault work sections fault × (after.finished ≡ files.finished) × (after.names ≡ files.names)
+
+-- the status of a call whose pages weren't written
+abbrev pub pages_status : PagesFault → ℕ
+pages_status faults.Foreign = 1
+pages_status faults.Unwritten = 1
+pages_status (faults.Refused lines) = 5
+pages_status faults.Memory = 3
+
 abbrev pub of_output : OutputFault → PagesFault
 of_output output_faults.Failed = faults.Unwritten
 of_output output_faults.Memory = faults.Memory

@@ -42,4 +42,4 @@ progress_data progress = record { entries = map entry_data progress.entries.item
 
 -- `sources`: the folder that has the source files, as data
 abbrev pub work_data : {F T : Type 0} → (sources : FolderData) → PagesWork F T → PagesWorkData
-work_data sources work = pages_work sources work.folder.now work.options.now (choice_data work.choice.now) work.strictness
+work_data sources work = pages_work sources work.folder.now work.texts.now (choice_data work.choice.now) work.strictness

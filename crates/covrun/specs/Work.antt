@@ -202,7 +202,7 @@ AreTaken (Remove version names) = ArePatterns (drop 1 names)
 AreTaken (Gcov test names) = IsGoodTest test
 AreTaken (Check format jobs names) = Unit {0}
 AreTaken (Combine options) = Unit {0}
-AreTaken (Html version jobs filter pages names) = IsFilter filter × AreRules pages.sources
+AreTaken (Html version jobs filter pages names) = IsFilter filter × AreRules pages.texts.sources
 
 -- a pattern, a limit or the test's name is refused for this reason
 abbrev pub AreRefused : Command → ArgumentFault → Type 0
@@ -215,7 +215,7 @@ AreRefused (Remove version names) fault = IsPatternFault (drop 1 names) fault
 AreRefused (Gcov test names) fault = IsTestFault test fault
 AreRefused (Check format jobs names) fault = ⊥
 AreRefused (Combine options) fault = ⊥
-AreRefused (Html version jobs filter pages names) fault = IsShowFault filter pages.sources fault
+AreRefused (Html version jobs filter pages names) fault = IsShowFault filter pages.texts.sources fault
 
 -- a list of source files is asked for
 abbrev pub AsksList : QuestionData → Type 0

@@ -205,7 +205,7 @@ pub(crate) fn task_for(
             names,
         } => {
             let asks = Question::list(TotalsForm::Words, chosen_files(alloc, &filter)?);
-            check_rules(pages.sources.get())?;
+            check_rules(pages.texts.sources.get())?;
             let work = Work {
                 files: names,
                 format: tracefiles(size, version),
