@@ -140,7 +140,7 @@ cut_line file pages = said (codes "standard output can't be written" ++ but_writ
 
 -- pages can't be written into the folder. `warnings`: the lines before
 abbrev pub pages_lines : (warnings folder : List ℕ) → PagesFault → List ℕ
-pages_lines warnings folder pages_faults.Foreign = warnings ++ told folder (codes "has files that are no pages: name another folder")
+pages_lines warnings folder pages_faults.Foreign = warnings ++ told folder (codes "has files that html didn't write")
 pages_lines warnings folder pages_faults.Unwritten = warnings ++ unwritten_line folder None
 pages_lines warnings folder (pages_faults.Refused lines) = warnings ++ lines
 pages_lines warnings folder pages_faults.Memory = said (words_of_fault sessions.Memory)

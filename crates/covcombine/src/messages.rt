@@ -378,11 +378,7 @@ pub(crate) fn put_pages_fault(
     ensures told { OnOk result (lines.new ≡ pages_lines lines.old name.now fault) }
 {
     match fault {
-        PagesFault::Foreign => put_told(
-            name,
-            b"has files that are no pages: name another folder",
-            lines,
-        ),
+        PagesFault::Foreign => put_told(name, b"has files that html didn't write", lines),
         PagesFault::Unwritten => put_unwritten(name, None, lines),
         PagesFault::Refused(told) => lines.append(told.get()),
         PagesFault::Memory => Err(Memory),
