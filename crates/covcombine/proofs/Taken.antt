@@ -4,7 +4,8 @@ use Rattle.std.proofs.lemmas.Bool.{eqb-true}
 use Rattle.std.proofs.lemmas.List.{length-map, length-take-le}
 use Rattle.std.specs.List.{AllByRecursion}
 use Rattle.std.specs.Option.{is_some, unwrap_or}
-use Rattle.std.specs.Prelude.{Contains, IfSome}
+use Rattle.std.specs.Prelude.{Contains, IfSome, IsTrue, option_map}
+use Rattle.std.specs.String.{string_bytes}
 use Rattle.covcommand.specs.declared.asked.CombineOptions.{CombineOptions}
 use Rattle.covcommand.specs.declared.asked.Limits.{Limits}
 use Rattle.covcommand.specs.declared.asked.Overview.{Overview}
@@ -13,6 +14,7 @@ use Rattle.covcommand.specs.declared.asked.SourceFilter.{SourceFilter}
 use Rattle.covcommand.specs.declared.asked.TotalsForm.{TotalsForm}
 use Rattle.covcommand.specs.declared.asked.TotalsForm.TheVariants as forms
 use Rattle.covlimit.specs.Rates.{IsRate}
+use Rattle.covpages.specs.Sources.{AreRules as AreSourceRules, rule_of as source_rule_of}
 use Rattle.covpaths.specs.Names.{IsGoodTestIfAny}
 use Rattle.covpaths.specs.Paths.{IsGoodRule, IsRuleFault, RuleData, rule_of}
 use Rattle.covpaths.specs.declared.rule.RuleFault.{RuleFault}
@@ -22,8 +24,8 @@ use Rattle.covreport.specs.declared.patterns.PatternFault.{PatternFault}
 use Rattle.covreport.specs.declared.patterns.PatternFault.TheVariants as patterns
 use Rattle.covtable.proofs.Members.{All-in, In, In-from}
 use Rattle.covworld.specs.Folder.{FolderData}
-use Rattle.covcombine.specs.Options.{AreRulesOf, IsCallFault, IsOneFile, choice_by, limit_in, patterns_in}
-use Rattle.covcombine.specs.Steps.{AreNames, ArePatterns, AreSourceRules, HasFolder, HasRoom, IsFolderFault, IsNameFault, IsNewNameFault, IsOneFileFault, IsPatternFault, IsRateFault, IsRoomFault, IsSourceFault, IsWordFault, IsWorkFault, of_pattern}
+use Rattle.covcombine.specs.Options.{AreRulesOf, AsksForPages, IsCallFault, IsOneFile, choice_by, limit_in, patterns_in}
+use Rattle.covcombine.specs.Steps.{AreNames, ArePatterns, HasFolder, HasRoom, IsFolderFault, IsNameFault, IsNewNameFault, IsOneFileFault, IsPatternFault, IsRateFault, IsRoomFault, IsSourceFault, IsWordFault, IsWorkFault, of_pattern}
 use Rattle.covcombine.specs.declared.call_fault.CallFault.{CallFault}
 use Rattle.covcombine.specs.declared.call_fault.CallFault.TheVariants.{ManyPatterns, LongPattern, NoRate, BadPath, BadTest, NoRoom, NoPages, BadSource, NoName, Twice, OneFile, UnreadList, LongList, NotText}
 use Rattle.covcombine.specs.declared.call_fault.CallOption.{CallOption}
@@ -124,7 +126,12 @@ no_rule_fault word rule is good faults.Slashes (told, told_is, some, differ) =
     let can = subst (λ (r : RuleData). IsGoodRule r) (same_rule word rule told is told_is) good in
     ⊎_elim some differ can.slashes
 
--- patterns, thresholds, the overview, names, the test and paths do, so nothing is at fault unless two names are of one file
+-- a word of `--source` is a rule
+source_there : (words : List (List ℕ)) (word : List ℕ) → AreSourceRules words → Contains words word → source_rule_of word ≡ None → ⊥
+source_there words word all within none =
+    true≢false (sym (All-in (λ (w : List ℕ). IsTrue (is_some (source_rule_of w))) words word all (In-from words word within)) ∙ ap (λ (r : Option (List ℕ × List ℕ)). is_some r) none)
+
+-- patterns, thresholds, the overview, options of pages, names, the test and paths do, so nothing is at fault unless two names are of one file
 pub faultless : (folder : FolderData) (options : CombineOptions) (names : List (List ℕ)) (file : Option (List ℕ))
     → ((option : CallOption) → ArePatterns (patterns_in option options.filter)) → ((option : CallOption) → IfSome (limit_in option options.limits) IsRate) → HasRoom options file
     → HasFolder options → AreSourceRules options.texts.sources → AreNames names → (rules : List RuleData) → AreRulesOf options.paths rules → AllByRecursion IsGoodRule rules → IsGoodTestIfAny options.test
@@ -139,7 +146,7 @@ faultless folder options names file taken rates room pages sources named rules a
 faultless folder options names file taken rates room pages sources named rules are good test (BadTest told) (is, bad) = bad (subst (λ (t : Option (List ℕ)). IsGoodTestIfAny t) is test)
 faultless folder options names file taken rates room pages sources named rules are good test (NoRoom option) (none, asks) = room option none asks
 faultless folder options names file taken rates room pages sources named rules are good test (NoPages option) (none, asks) = pages option none asks
-faultless folder options names file taken rates room pages sources named rules are good test (BadSource word) (within, none) = sources word.now within none
+faultless folder options names file taken rates room pages sources named rules are good test (BadSource word) (within, none) = source_there options.texts.sources word.now sources within none
 faultless folder options names file taken rates room pages sources named rules are good test NoName none = named.0 none
 faultless folder options names file taken rates room pages sources named rules are good test (Twice name) twice = named.1 name.now twice
 faultless folder options names file taken rates room pages sources named rules are good test (OneFile first second) one = tt
@@ -398,5 +405,17 @@ same_test test asked is good = subst (λ (t : Option (List ℕ)). IsGoodTestIfAn
 
 -- ---- options of pages
 
-pub folder_there : (html : Option (List ℕ)) (name : List ℕ) → html ≡ Some name → html ≡ None → ⊥
-folder_there html name there none = no_file name (sym there ∙ none)
+-- a folder is named, so options may say what its pages show
+pub folder_beside : (options : CombineOptions) (name : List ℕ) → option_map string_bytes options.html ≡ Some name → HasFolder options
+folder_beside options name there option none asks = no_file name (sym there ∙ none)
+
+-- no option says what pages show
+pub folder_unasked : (options : CombineOptions) → ((option : CallOption) → AsksForPages option options.texts → ⊥) → HasFolder options
+folder_unasked options unasked option none asks = unasked option asks
+
+some_source : (rule : List ℕ × List ℕ) → (let found : Option (List ℕ × List ℕ) = Some rule in is_some found ≡ false) → ⊥
+some_source rule e = absurd cc
+
+pub no_rule_there : (rule : Option (List ℕ × List ℕ)) → is_some rule ≡ false → rule ≡ None
+no_rule_there None is = refl
+no_rule_there (Some rule) is = absurd (some_source rule is)

@@ -278,11 +278,7 @@ IsFolderFault options (works.Call (NoPages option)) = (option_map string_bytes o
 IsFolderFault options (works.Call other) = ⊥
 IsFolderFault options works.Memory = ⊥
 
--- each word says where source files lie
-abbrev pub AreSourceRules : (words : List (List ℕ)) → Type 0
-AreSourceRules words = (word : List ℕ) → Contains words word → source_rule_of word ≡ None → ⊥
-
--- a word doesn't
+-- a word doesn't say where source files lie
 abbrev pub IsSourceFault : (words : List (List ℕ)) → WorkFault → Type 0
 IsSourceFault words (works.Call (BadSource word)) = Contains words word.now × (source_rule_of word.now ≡ None)
 IsSourceFault words (works.Call other) = ⊥

@@ -216,7 +216,13 @@ fn do_work<
             Ok(ending) => report(alloc, folder, ending, file, world),
             Err(_) => report::<F, P, I, O, E, T>(alloc, folder, no_memory(), file, world),
         },
-        Err(fault) => report::<F, P, I, O, E, T>(alloc, folder, end_for_collecting(fault), file, world),
+        Err(fault) => report::<F, P, I, O, E, T>(
+            alloc,
+            folder,
+            end_for_collecting(fault),
+            file,
+            world,
+        ),
     }
 }
 

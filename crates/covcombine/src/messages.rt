@@ -339,11 +339,7 @@ pub(crate) fn put_cut(
 }
 
 /// Appends what was written before: a file, a folder of pages, or both.
-fn put_but_written(
-    file: Option<&str>,
-    pages: Option<&str>,
-    lines: &mut Bytes,
-) -> Result<(), Memory>
+fn put_but_written(file: Option<&str>, pages: Option<&str>, lines: &mut Bytes) -> Result<(), Memory>
     ensures { OnOk result (lines.new ≡ lines.old ++ but_written (option_map (λ name. name.now) file.entry) (option_map (λ name. name.now) pages.entry)) }
 {
     match (file, pages) {

@@ -80,14 +80,7 @@ fn give<F: Folder, P: FolderWriter, I: Source, O: Sink, E: Sink, T: PointsTable<
 }
 
 /// Writes the pages, and then gives the texts. Returns the exit status.
-fn give_with_pages<
-    F: Folder,
-    P: FolderWriter,
-    I: Source,
-    O: Sink,
-    E: Sink,
-    T: PointsTable<Global>,
->(
+fn give_with_pages<F: Folder, P: FolderWriter, I: Source, O: Sink, E: Sink, T: PointsTable<Global>>(
     alloc: Global,
     sources: &F,
     pages: &Pages<'_, T>,
@@ -114,7 +107,14 @@ fn give_with_pages<
         Ok(more) => {
             let mut warnings = warnings;
             match warnings.append(more.get()) {
-                Ok(()) => give_texts(alloc, texts, warnings.get(), file, Some(pages.folder), world),
+                Ok(()) => give_texts(
+                    alloc,
+                    texts,
+                    warnings.get(),
+                    file,
+                    Some(pages.folder),
+                    world,
+                ),
                 Err(_) => report_no_memory(&mut world.sinks),
             }
         }

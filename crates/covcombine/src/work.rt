@@ -4,12 +4,13 @@ ghost use Rattle.std.specs.Prelude.{◌≡◌, List, Option, Some, map, option_m
 ghost use Rattle.std.specs.String.{string_bytes};
 ghost use Rattle.covlimit.specs.LimitsView.{limits_data};
 ghost use Rattle.covlimit.specs.Rates.{IsRate};
+ghost use Rattle.covpages.specs.Sources.{AreRules};
 ghost use Rattle.covpaths.specs.Names.{AreGoodNames, IsGoodTestIfAny};
 ghost use Rattle.covpaths.specs.Paths.{IsGoodRule, rule_of as rule_of_word};
 ghost use Rattle.covreport.specs.ChoiceView.{choice_data};
 ghost use Rattle.covcombine.specs.declared.call_fault.CallOption.{CallOption as AnOption};
 ghost use Rattle.covcombine.specs.Options.{AreRulesOf, IsWorkOf, choice_by, limits_of as limits_with, limit_in, patterns_in};
-ghost use Rattle.covcombine.specs.Steps.{AreNames, ArePatterns, AreSourceRules, HasFolder, HasRoom, IsFolderFault, IsNameFault, IsNewNameFault, IsOptionIfAny, IsPatternFault, IsOneFileFault, IsOneFileIfAny, IsRateFault, IsRoomFault, IsSourceFault, IsTestFault, IsTwiceIfAny, IsWordFault, IsWorkFault, of_pattern};
+ghost use Rattle.covcombine.specs.Steps.{AreNames, ArePatterns, HasFolder, HasRoom, IsFolderFault, IsNameFault, IsNewNameFault, IsOptionIfAny, IsPatternFault, IsOneFileFault, IsOneFileIfAny, IsRateFault, IsRoomFault, IsSourceFault, IsTestFault, IsTwiceIfAny, IsWordFault, IsWorkFault, of_pattern};
 ghost use Rattle.covcombine.specs.FileNames.{AreApart};
 ghost use Rattle.covcombine.specs.View.{work_data};
 ghost use Rattle.covworld.specs.Folder.{folder_data};
@@ -21,7 +22,7 @@ use covcommand::{
 };
 use covdata::{Bytes, Memory, good_test};
 use covlimit::{Limits, Rate};
-use covpages::SourceRule;
+use covpages::is_source_rule;
 use covpaths::{NewNames, PathRule};
 use covreport::{Choice, PatternFault, Patterns};
 use covworld::{FileId, Folder};
@@ -247,8 +248,9 @@ fn check_pages<'a>(options: &CombineOptions) -> Result<(), WorkFault<'a>>
     ensures fault { IfErr result (IsFolderFault options.now) }
 {
     match (&options.html, pages_option(&options.texts)) {
+        (Some(_), _) => Ok(()),
+        (None, None) => Ok(()),
         (None, Some(option)) => Err(WorkFault::Call(CallFault::NoPages(option))),
-        _ => Ok(()),
     }
 }
 
@@ -269,13 +271,13 @@ fn pages_option(texts: &PageTexts) -> Option<CallOption>
 
 /// Checks that each of the `words` of `--source` is a rule.
 fn check_sources<'a>(words: &'a [String]) -> Result<(), WorkFault<'a>>
-    ensures rules { IfOk result (λ _. AreSourceRules (map string_bytes words.now)) }
+    ensures rules { IfOk result (λ _. AreRules (map string_bytes words.now)) }
     ensures fault { IfErr result (IsSourceFault (map string_bytes words.now)) }
 {
     for word in words {
-        let word = word.as_str();
-        if SourceRule::of(word).is_none() {
-            return Err(WorkFault::Call(CallFault::BadSource(word)));
+        let name = word.as_str();
+        if !is_source_rule(name) {
+            return Err(WorkFault::Call(CallFault::BadSource(name)));
         }
     }
     Ok(())

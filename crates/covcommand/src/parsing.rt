@@ -247,11 +247,7 @@ fn expected_of(found: &ArgMatches<'_>) -> Option<u32>
 }
 
 /// The argument of the option `id`, which is a path, or `None` without the option.
-fn path_if_any(
-    alloc: Global,
-    found: &ArgMatches<'_>,
-    id: &str,
-) -> Result<Option<String>, Memory>
+fn path_if_any(alloc: Global, found: &ArgMatches<'_>, id: &str) -> Result<Option<String>, Memory>
     ensures { IfOk result (IsPathIfAny id.now (rows_of (found_of found.now))) }
 {
     match found.get_str(id) {
