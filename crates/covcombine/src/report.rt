@@ -91,8 +91,8 @@ fn give_with_pages<F: Folder, P: FolderWriter, I: Source, O: Sink, E: Sink, T: P
 ) -> u8
     requires { CanReport world.old }
     ensures input { world.new.input ≡ world.old.input }
-    ensures given { HasNoPages (folder_data F.Folder F.File.Source sources.now) (pages_data T.shown pages.now) warnings.entry result world.old world.new
-        ⊎ HasPages (folder_data F.Folder F.File.Source sources.now) (option_map (λ name. name.now) file.entry) (pages_data T.shown pages.now) (texts_data texts.entry) warnings.entry result world.old world.new }
+    ensures given { HasNoPages (folder_data F.Folder F.File.Source sources.now) (pages_data T.shown pages.now) warnings result world.old world.new
+        ⊎ HasPages (folder_data F.Folder F.File.Source sources.now) (option_map (λ name. name.now) file.entry) (pages_data T.shown pages.now) (texts_data texts.entry) warnings result world.old world.new }
 {
     let work = PagesWork {
         alloc,
@@ -130,7 +130,7 @@ fn report_pages_fault<O: Sink, E: Sink>(
     sinks: &mut Sinks<O, E>,
 ) -> u8
     requires { sinks.old.failed_faults < 2 ^ 62 }
-    ensures { (told : PagesFaultData) × ((told ≡ fault.entry) ⊎ (told ≡ pages_faults.Memory)) × IsPagesFaultTold warnings.entry name.now told result sinks.old sinks.new }
+    ensures { (told : PagesFaultData) × ((told ≡ fault) ⊎ (told ≡ pages_faults.Memory)) × IsPagesFaultTold warnings name.now told result sinks.old sinks.new }
 {
     let status = fault.status();
     let mut lines = warnings;

@@ -177,8 +177,8 @@ fn put_command(rt: &impl Abort, text: &mut String, command: &Command) {
     }
 }
 
-/// Appends the command `combine`, its numbers, the list, the paths, the test, the source filter, the overview, the thresholds and
-/// the names.
+/// Appends the command `combine`, its numbers, the list, the paths, the test, the source filter, the overview, the pages, the
+/// thresholds and the names.
 fn put_combine(rt: &impl Abort, text: &mut String, options: &CombineOptions) {
     put(rt, text, "combine");
     put_number(rt, text, " jobs(", options.jobs);
