@@ -1,5 +1,5 @@
 -- Which ending a call has, from the results of its steps.
-use Rattle.std.proofs.Common.{◌≡◌, ◌==◌, inl, inr, ℕ, Bool, true, false, true≢false, List, [], ◌∷◌, ◌++◌, length, Option, Result, IfOk, OnOk, if◌then◌else◌, append_assoc, refl, sym, ap, subst, ◌∙◌, arith}
+use Rattle.std.proofs.Common.{◌≡◌, ◌==◌, inl, inr, ℕ, Bool, true, false, true≢false, List, [], ◌∷◌, ◌++◌, length, Option, Some, Result, IfOk, OnOk, if◌then◌else◌, append_assoc, refl, sym, ap, subst, ◌∙◌, arith}
 use Rattle.std.proofs.lemmas.Bool.{eqb-true}
 use Rattle.covbook.specs.Op.{EntryData}
 use Rattle.covbook.specs.Step.{ops_in, table_of}
@@ -19,7 +19,7 @@ use Rattle.covworkers.specs.declared.collect_fault.CollectFault.{CollectFault}
 use Rattle.covworkers.specs.declared.collect_fault.CollectFault.TheVariants as collects
 use Rattle.covworkers.specs.declared.refused.RefusedInput.{RefusedInput}
 use Rattle.covworld.specs.Folder.{FolderData}
-use Rattle.covcombine.specs.Combine.{EndingData, Fails, Gives, GivenData, PagesData, TextsData, doubts, end_of, failure_status, failures, fails_for, given, is_whole, judged_by, overview_text, pattern_lines, unused_from, warnings}
+use Rattle.covcombine.specs.Combine.{EndingData, Fails, Gives, GivenData, PagesData, TextsData, doubts, end_of, failure_status, failures, fails_for, given, is_whole, judged_by, overview_text, pages_in, pattern_lines, unused_from, warnings}
 use Rattle.covcombine.specs.Combined.{Ends, of_collecting}
 use Rattle.covcombine.specs.Options.{CombineData}
 use Rattle.covcombine.specs.Steps.{AreCollected, StopsCollecting}
@@ -83,6 +83,11 @@ pub texts_so : (tracefile overview missed shown seen short : List ℕ) → trace
 texts_so tracefile overview missed shown seen short same_tracefile same_overview same_missed =
     ap (λ (t : List ℕ). parts t overview missed) same_tracefile ∙ ap (λ (o : List ℕ). parts shown o missed) same_overview
     ∙ ap (λ (m : List ℕ). parts shown seen m) same_missed
+
+-- the pages show the chosen source files, by a copy of the choice
+pub pages_so : (work : CombineData) (sections : List SectionData) (folder : List ℕ) (choice : ChoiceData) → choice ≡ work.choice
+    → (let copied : Option PagesData = Some (record (pages_in work sections folder) { choice = choice }) in let asked : Option PagesData = Some (pages_in work sections folder) in copied ≡ asked)
+pages_so work sections folder choice same = ap (λ (ch : ChoiceData). Some (record (pages_in work sections folder) { choice = ch })) same
 
 pub given_so : (warned : List ℕ) (pages asked : Option PagesData) (texts shown : TextsData) → pages ≡ asked → texts ≡ shown
     → (let what : GivenData = record { warnings = warned; pages = pages; texts = texts } in let is : GivenData = record { warnings = warned; pages = asked; texts = shown } in what ≡ is)

@@ -214,10 +214,14 @@ overview_text overviews.Summary Json choice sections = summary_json_of (totals_o
 overview_text overviews.List Words choice sections = list_table_of (chosen_files choice sections) (totals_of_chosen choice sections)
 overview_text overviews.List Json choice sections = list_json_of (chosen_files choice sections) (totals_of_chosen choice sections)
 
+-- the pages of this table in this folder
+abbrev pub pages_in : CombineData → List SectionData → (folder : List ℕ) → PagesData
+pages_in work sections folder =
+    record { folder = folder; texts = work.texts; choice = work.choice; strictness = work.strictness; sections = sections }
+
 -- the pages of this table, if the call asks for some
 abbrev pub pages_asked : CombineData → List SectionData → Option PagesData
-pages_asked work sections =
-    option_map (λ folder. record { folder = folder; texts = work.texts; choice = work.choice; strictness = work.strictness; sections = sections }) work.html
+pages_asked work sections = option_map (pages_in work sections) work.html
 
 -- what a call gives of the chosen source files of this table
 abbrev pub given : (warnings : List ℕ) → CombineData → List SectionData → GivenData
