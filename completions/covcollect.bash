@@ -54,7 +54,7 @@ _covcollect() {
         elif [[ -z $ended && ${words[i]} == -* ]]; then
             # The value of an option is a word of its own, where it isn't part of the option's.
             case ${words[i]} in
-                -j | --jobs | -o | --output | --include | --exclude | --test | --expect | --path | --files-from | --title | --date | --source) ((i++)) ;;
+                -j | --jobs | -o | --output | --include | --exclude | --test | --expect | --path | --files-from | --html | --title | --date | --source) ((i++)) ;;
                 --fail-under-lines | --fail-under-functions | --fail-under-branches) ((i++)) ;;
             esac
             [[ $subcommand${words[i]} == check--gcov ]] && annotated=1
@@ -88,13 +88,13 @@ _covcollect() {
                 return
                 ;;
             # The folder for pages.
-            html--output | html-o)
+            combine--html | html--output | html-o)
                 _filedir -d
                 return
                 ;;
             # A pattern, the name of a test, a threshold, a number of files, and a text.
             merge--include | merge--exclude | summary--include | summary--exclude | list--include | list--exclude | gcov--test | \
-                combine--include | combine--exclude | combine--expect | combine--path | html--include | html--exclude | html--title | html--date | html--source | \
+                combine--include | combine--exclude | combine--expect | combine--path | combine--title | combine--date | combine--source | html--include | html--exclude | html--title | html--date | html--source | \
                 *--fail-under-lines | *--fail-under-functions | *--fail-under-branches)
                 return
                 ;;
@@ -110,7 +110,7 @@ _covcollect() {
                 gcov) options+=' --test -o --output' ;;
                 check) options+=' -j --jobs --gcov --lcov2 --strict --large' ;;
                 combine)
-                    options+=' -j --jobs -o --output --strict --include --exclude --expect --path --one-test --files-from -0 --null --list --json -q --quiet'
+                    options+=' -j --jobs -o --output --strict --include --exclude --expect --path --one-test --files-from -0 --null --list --json -q --quiet --html --title --date --source'
                     options+=' --fail-under-lines --fail-under-functions --fail-under-branches'
                     ;;
                 html) options+=' -j --jobs --lcov2 --strict --large --include --exclude -o --output --title --date --source' ;;

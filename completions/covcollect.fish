@@ -12,7 +12,7 @@ function __covcollect_words
             echo -- $word
         else if test "$word" = --
             set ended yes
-        else if contains -- "$word" -j --jobs -o --output --include --exclude --test --expect --path --files-from --title --date --source --fail-under-{lines,functions,branches}
+        else if contains -- "$word" -j --jobs -o --output --include --exclude --test --expect --path --files-from --html --title --date --source --fail-under-{lines,functions,branches}
             set value yes
         else if not string match -q -- '-*' $word
             echo -- $word
@@ -117,10 +117,11 @@ complete -c covcollect -n '__covcollect_within combine' -l one-test -d 'Count al
 complete -c covcollect -n '__covcollect_within combine' -l path -x -d 'Count what is under OLD as under NEW, as OLD=NEW'
 complete -c covcollect -n '__covcollect_within combine' -l list -d 'List each source file, with -o'
 complete -c covcollect -n '__covcollect_within combine' -s q -l quiet -d 'Show no progress'
+complete -c covcollect -n '__covcollect_within combine' -l html -x -a '(__fish_complete_directories (commandline -ct))' -d 'Write pages into this folder too'
 complete -c covcollect -n '__covcollect_within html' -s o -l output -x -a '(__fish_complete_directories (commandline -ct))' -d 'Write the pages into this folder'
-complete -c covcollect -n '__covcollect_within html' -l title -x -d 'The title of the index'
-complete -c covcollect -n '__covcollect_within html' -l date -x -d 'The date that the index shows'
-complete -c covcollect -n '__covcollect_within html' -l source -x -d 'Where source files lie, as OLD=NEW'
+complete -c covcollect -n '__covcollect_within combine html' -l title -x -d 'The title of the index'
+complete -c covcollect -n '__covcollect_within combine html' -l date -x -d 'The date that the index shows'
+complete -c covcollect -n '__covcollect_within combine html' -l source -x -d 'Where source files lie, as OLD=NEW'
 complete -c covcollect -n '__covcollect_within gcov' -l test -x -d 'The test that the counts are of'
 complete -c covcollect -n '__covcollect_within check' -l gcov -d 'The files are what gcov wrote'
 complete -c covcollect -n '__covcollect_within merge summary list combine html' -a '(__covcollect_tracefiles)'

@@ -71,6 +71,9 @@ def whole_folders(player, folder):
             words = f"html --source {it}.c={folder}/{it}.c {folder}/{it}.info -o {name}"
             player.shell("report", folder, f'{before}; exec "$0" {words}', NOTHING)
             has_report(player, f"{folder}/{at}", it)
+        words = f"combine --source a.c={folder}/a.c {folder}/a.info --html {name} > /dev/null"
+        player.shell("report", folder, f'{before}; exec "$0" {words}', NOTHING)
+        has_report(player, f"{folder}/{at}", "a")
     if os.readlink(f"{folder}/link") != "way/out":
         player.differs("the link has changed")
     there = sorted(os.listdir(folder))

@@ -110,6 +110,8 @@ module _ (byte : ℕ) (text : List ℕ) (number : ℕ) (left : List ℕ) (before
   cut_fault list (works.Call (calls.BadPath why word)) none = absurd none
   cut_fault list (works.Call (calls.BadTest test)) none = absurd none
   cut_fault list (works.Call (calls.NoRoom option)) none = absurd none
+  cut_fault list (works.Call (calls.NoPages option)) none = absurd none
+  cut_fault list (works.Call (calls.BadSource word)) none = absurd none
   cut_fault list (works.Call calls.NoName) none = absurd none
   cut_fault list (works.Call (calls.Twice name)) none = absurd none
   cut_fault list (works.Call (calls.OneFile first second)) none = absurd none

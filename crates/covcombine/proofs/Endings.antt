@@ -1,5 +1,5 @@
 -- Which ending a call has, from the results of its steps.
-use Rattle.std.proofs.Common.{◌≡◌, ◌==◌, inl, inr, ℕ, Bool, true, false, true≢false, List, [], ◌∷◌, ◌++◌, length, Result, IfOk, OnOk, if◌then◌else◌, append_assoc, refl, sym, ap, subst, ◌∙◌, arith}
+use Rattle.std.proofs.Common.{◌≡◌, ◌==◌, inl, inr, ℕ, Bool, true, false, true≢false, List, [], ◌∷◌, ◌++◌, length, Option, Some, Result, IfOk, OnOk, if◌then◌else◌, append_assoc, refl, sym, ap, subst, ◌∙◌, arith}
 use Rattle.std.proofs.lemmas.Bool.{eqb-true}
 use Rattle.covbook.specs.Op.{EntryData}
 use Rattle.covbook.specs.Step.{ops_in, table_of}
@@ -19,14 +19,14 @@ use Rattle.covworkers.specs.declared.collect_fault.CollectFault.{CollectFault}
 use Rattle.covworkers.specs.declared.collect_fault.CollectFault.TheVariants as collects
 use Rattle.covworkers.specs.declared.refused.RefusedInput.{RefusedInput}
 use Rattle.covworld.specs.Folder.{FolderData}
-use Rattle.covcombine.specs.Combine.{EndingData, Fails, Gives, GivenData, doubts, end_of, failure_status, failures, fails_for, given, is_whole, judged_by, overview_text, pattern_lines, unused_from, warnings}
+use Rattle.covcombine.specs.Combine.{EndingData, Fails, Gives, GivenData, PagesData, TextsData, doubts, end_of, failure_status, failures, fails_for, given, is_whole, judged_by, overview_text, pages_in, pattern_lines, unused_from, warnings}
 use Rattle.covcombine.specs.Combined.{Ends, of_collecting}
 use Rattle.covcombine.specs.Options.{CombineData}
 use Rattle.covcombine.specs.Steps.{AreCollected, StopsCollecting}
 use Rattle.covcombine.specs.declared.note.Note.{Note}
 
-abbrev parts : (warned tracefile overview missed : List ℕ) → GivenData
-parts warned tracefile overview missed = record { warnings = warned; tracefile = tracefile; overview = overview; missed = missed }
+abbrev parts : (tracefile overview missed : List ℕ) → TextsData
+parts tracefile overview missed = record { tracefile = tracefile; overview = overview; missed = missed }
 
 -- there are failures
 fails_given : (failures warnings : List ℕ) (status : ℕ) (otherwise : EndingData) → (failures ≡ [] → ⊥) → fails_for failures warnings status otherwise ≡ Fails status (warnings ++ failures)
@@ -78,11 +78,20 @@ judged_so {A} {E} result front lines middle after work rules entries seen notes 
     joined a b c = simp append_assoc
 
 -- what a call gives, part by part
-pub given_so : (warned tracefile overview missed shown seen short : List ℕ) → tracefile ≡ shown → overview ≡ seen → missed ≡ short
-    → parts warned tracefile overview missed ≡ parts warned shown seen short
-given_so warned tracefile overview missed shown seen short same_tracefile same_overview same_missed =
-    ap (λ (t : List ℕ). parts warned t overview missed) same_tracefile ∙ ap (λ (o : List ℕ). parts warned shown o missed) same_overview
-    ∙ ap (λ (m : List ℕ). parts warned shown seen m) same_missed
+pub texts_so : (tracefile overview missed shown seen short : List ℕ) → tracefile ≡ shown → overview ≡ seen → missed ≡ short
+    → parts tracefile overview missed ≡ parts shown seen short
+texts_so tracefile overview missed shown seen short same_tracefile same_overview same_missed =
+    ap (λ (t : List ℕ). parts t overview missed) same_tracefile ∙ ap (λ (o : List ℕ). parts shown o missed) same_overview
+    ∙ ap (λ (m : List ℕ). parts shown seen m) same_missed
+
+-- the pages show the chosen source files, by a copy of the choice
+pub pages_so : (work : CombineData) (sections : List SectionData) (folder : List ℕ) (choice : ChoiceData) → choice ≡ work.choice
+    → (let copied : Option PagesData = Some (record (pages_in work sections folder) { choice = choice }) in let asked : Option PagesData = Some (pages_in work sections folder) in copied ≡ asked)
+pages_so work sections folder choice same = ap (λ (ch : ChoiceData). Some (record (pages_in work sections folder) { choice = ch })) same
+
+pub given_so : (warned : List ℕ) (pages asked : Option PagesData) (texts shown : TextsData) → pages ≡ asked → texts ≡ shown
+    → (let what : GivenData = record { warnings = warned; pages = pages; texts = texts } in let is : GivenData = record { warnings = warned; pages = asked; texts = shown } in what ≡ is)
+given_so warned pages asked texts shown same are = λ i. record { warnings = warned; pages = same i; texts = are i }
 
 pub no_lines : (lines : List ℕ) → (length lines == 0) ≡ true → lines ≡ []
 no_lines [] is = refl

@@ -48,6 +48,9 @@ pub ended_six : (a b c d e f end : List ℕ) → a ++ (b ++ (c ++ (d ++ (e ++ (f
 ended_six a b c d e f end = simp append_assoc
 
 -- a name in front of the words
+pub named_two : (name colon a w end : List ℕ) → (name ++ colon) ++ (a ++ (w ++ end)) ≡ (name ++ (colon ++ (a ++ w))) ++ end
+named_two name colon a w end = simp append_assoc
+
 pub named_words : (name colon a w z end : List ℕ) → (name ++ colon) ++ (a ++ (w ++ (z ++ end))) ≡ (name ++ (colon ++ (a ++ (w ++ z)))) ++ end
 named_words name colon a w z end = simp append_assoc
 

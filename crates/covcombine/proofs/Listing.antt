@@ -33,6 +33,8 @@ module _ (folder : FolderData) (options : CombineOptions) (before after : Source
     names_stop (works.Call (calls.BadPath why word)) none = absurd none
     names_stop (works.Call (calls.BadTest test)) none = absurd none
     names_stop (works.Call (calls.NoRoom option)) none = absurd none
+    names_stop (works.Call (calls.NoPages option)) none = absurd none
+    names_stop (works.Call (calls.BadSource word)) none = absurd none
     names_stop (works.Call calls.NoName) none = absurd none
     names_stop (works.Call (calls.Twice name)) none = absurd none
     names_stop (works.Call (calls.OneFile first second)) none = absurd none

@@ -4,7 +4,8 @@ use Rattle.std.proofs.lemmas.Bool.{eqb-true}
 use Rattle.std.proofs.lemmas.List.{length-map, length-take-le}
 use Rattle.std.specs.List.{AllByRecursion}
 use Rattle.std.specs.Option.{is_some, unwrap_or}
-use Rattle.std.specs.Prelude.{Contains, IfSome}
+use Rattle.std.specs.Prelude.{Contains, IfSome, IsTrue, option_map}
+use Rattle.std.specs.String.{string_bytes}
 use Rattle.covcommand.specs.declared.asked.CombineOptions.{CombineOptions}
 use Rattle.covcommand.specs.declared.asked.Limits.{Limits}
 use Rattle.covcommand.specs.declared.asked.Overview.{Overview}
@@ -13,6 +14,7 @@ use Rattle.covcommand.specs.declared.asked.SourceFilter.{SourceFilter}
 use Rattle.covcommand.specs.declared.asked.TotalsForm.{TotalsForm}
 use Rattle.covcommand.specs.declared.asked.TotalsForm.TheVariants as forms
 use Rattle.covlimit.specs.Rates.{IsRate}
+use Rattle.covpages.specs.Sources.{AreRules as AreSourceRules, rule_of as source_rule_of}
 use Rattle.covpaths.specs.Names.{IsGoodTestIfAny}
 use Rattle.covpaths.specs.Paths.{IsGoodRule, IsRuleFault, RuleData, rule_of}
 use Rattle.covpaths.specs.declared.rule.RuleFault.{RuleFault}
@@ -22,12 +24,12 @@ use Rattle.covreport.specs.declared.patterns.PatternFault.{PatternFault}
 use Rattle.covreport.specs.declared.patterns.PatternFault.TheVariants as patterns
 use Rattle.covtable.proofs.Members.{All-in, In, In-from}
 use Rattle.covworld.specs.Folder.{FolderData}
-use Rattle.covcombine.specs.Options.{AreRulesOf, IsCallFault, IsOneFile, choice_by, limit_in, patterns_in}
-use Rattle.covcombine.specs.Steps.{AreNames, ArePatterns, HasRoom, IsNameFault, IsNewNameFault, IsOneFileFault, IsPatternFault, IsRateFault, IsRoomFault, IsWordFault, IsWorkFault, of_pattern}
+use Rattle.covcombine.specs.Options.{AreRulesOf, AsksForPages, IsCallFault, IsOneFile, choice_by, limit_in, patterns_in}
+use Rattle.covcombine.specs.Steps.{AreNames, ArePatterns, HasFolder, HasRoom, IsFolderFault, IsNameFault, IsNewNameFault, IsOneFileFault, IsPatternFault, IsRateFault, IsRoomFault, IsSourceFault, IsWordFault, IsWorkFault, of_pattern}
 use Rattle.covcombine.specs.declared.call_fault.CallFault.{CallFault}
-use Rattle.covcombine.specs.declared.call_fault.CallFault.TheVariants.{ManyPatterns, LongPattern, NoRate, BadPath, BadTest, NoRoom, NoName, Twice, OneFile, UnreadList, LongList, NotText}
+use Rattle.covcombine.specs.declared.call_fault.CallFault.TheVariants.{ManyPatterns, LongPattern, NoRate, BadPath, BadTest, NoRoom, NoPages, BadSource, NoName, Twice, OneFile, UnreadList, LongList, NotText}
 use Rattle.covcombine.specs.declared.call_fault.CallOption.{CallOption}
-use Rattle.covcombine.specs.declared.call_fault.CallOption.TheVariants.{Include, Exclude, FailUnderLines, FailUnderFunctions, FailUnderBranches, List as ShowList, Json as PrintJson}
+use Rattle.covcombine.specs.declared.call_fault.CallOption.TheVariants.{Include, Exclude, FailUnderLines, FailUnderFunctions, FailUnderBranches, List as ShowList, Json as PrintJson, Title, Date, Source}
 use Rattle.covcombine.specs.declared.call_fault.WorkFault.{WorkFault}
 use Rattle.covcombine.specs.declared.call_fault.WorkFault.TheVariants as works
 
@@ -48,6 +50,9 @@ taken_each filter includes excludes FailUnderFunctions = no_patterns
 taken_each filter includes excludes FailUnderBranches = no_patterns
 taken_each filter includes excludes ShowList = no_patterns
 taken_each filter includes excludes PrintJson = no_patterns
+taken_each filter includes excludes Title = no_patterns
+taken_each filter includes excludes Date = no_patterns
+taken_each filter includes excludes Source = no_patterns
 
 -- the thresholds of all three options do, and no other option has one
 pub rates_each : (limits : Limits) → IfSome limits.lines IsRate → IfSome limits.functions IsRate → IfSome limits.branches IsRate → (option : CallOption) → IfSome (limit_in option limits) IsRate
@@ -58,6 +63,9 @@ rates_each limits lines functions branches FailUnderFunctions = functions
 rates_each limits lines functions branches FailUnderBranches = branches
 rates_each limits lines functions branches ShowList = tt
 rates_each limits lines functions branches PrintJson = tt
+rates_each limits lines functions branches Title = tt
+rates_each limits lines functions branches Date = tt
+rates_each limits lines functions branches Source = tt
 
 no_list : (overview : Overview) → overview ≡ overviews.Summary → overview ≡ overviews.List → ⊥
 no_list overview is asks = cc
@@ -81,6 +89,9 @@ room_unasked options file summary words FailUnderFunctions none asks = asks
 room_unasked options file summary words FailUnderBranches none asks = asks
 room_unasked options file summary words ShowList none asks = no_list options.overview summary asks
 room_unasked options file summary words PrintJson none asks = no_json options.form words asks
+room_unasked options file summary words Title none asks = asks
+room_unasked options file summary words Date none asks = asks
+room_unasked options file summary words Source none asks = asks
 
 -- ---- all options do
 
@@ -115,26 +126,33 @@ no_rule_fault word rule is good faults.Slashes (told, told_is, some, differ) =
     let can = subst (λ (r : RuleData). IsGoodRule r) (same_rule word rule told is told_is) good in
     ⊎_elim some differ can.slashes
 
--- patterns, thresholds, the overview, names, the test and paths do, so nothing is at fault unless two names are of one file
+-- a word of `--source` is a rule
+source_there : (words : List (List ℕ)) (word : List ℕ) → AreSourceRules words → Contains words word → source_rule_of word ≡ None → ⊥
+source_there words word all within none =
+    true≢false (sym (All-in (λ (w : List ℕ). IsTrue (is_some (source_rule_of w))) words word all (In-from words word within)) ∙ ap (λ (r : Option (List ℕ × List ℕ)). is_some r) none)
+
+-- patterns, thresholds, the overview, options of pages, names, the test and paths do, so nothing is at fault unless two names are of one file
 pub faultless : (folder : FolderData) (options : CombineOptions) (names : List (List ℕ)) (file : Option (List ℕ))
     → ((option : CallOption) → ArePatterns (patterns_in option options.filter)) → ((option : CallOption) → IfSome (limit_in option options.limits) IsRate) → HasRoom options file
-    → AreNames names → (rules : List RuleData) → AreRulesOf options.paths rules → AllByRecursion IsGoodRule rules → IsGoodTestIfAny options.test
+    → HasFolder options → AreSourceRules options.texts.sources → AreNames names → (rules : List RuleData) → AreRulesOf options.paths rules → AllByRecursion IsGoodRule rules → IsGoodTestIfAny options.test
     → (fault : CallFault) → IsCallFault folder options names file fault → IsOneFile fault
-faultless folder options names file taken rates room named rules are good test (ManyPatterns option) many = apart (length (patterns_in option options.filter)) max_patterns (taken option).0 many
-faultless folder options names file taken rates room named rules are good test (LongPattern option) (pattern, within, long) =
+faultless folder options names file taken rates room pages sources named rules are good test (ManyPatterns option) many = apart (length (patterns_in option options.filter)) max_patterns (taken option).0 many
+faultless folder options names file taken rates room pages sources named rules are good test (LongPattern option) (pattern, within, long) =
     none_long max_pattern_bytes (patterns_in option options.filter) pattern (taken option).1 within long
-faultless folder options names file taken rates room named rules are good test (NoRate option word) (is, none) = none (subst (λ (w : Option (List ℕ)). IfSome w IsRate) is (rates option))
-faultless folder options names file taken rates room named rules are good test (BadPath fault word) (within, bad) =
+faultless folder options names file taken rates room pages sources named rules are good test (NoRate option word) (is, none) = none (subst (λ (w : Option (List ℕ)). IfSome w IsRate) is (rates option))
+faultless folder options names file taken rates room pages sources named rules are good test (BadPath fault word) (within, bad) =
     let (rule, is, can) = rule_there options.paths rules are good word.now (In-from options.paths word.now within) in
     no_rule_fault word.now rule is can fault bad
-faultless folder options names file taken rates room named rules are good test (BadTest told) (is, bad) = bad (subst (λ (t : Option (List ℕ)). IsGoodTestIfAny t) is test)
-faultless folder options names file taken rates room named rules are good test (NoRoom option) (none, asks) = room option none asks
-faultless folder options names file taken rates room named rules are good test NoName none = named.0 none
-faultless folder options names file taken rates room named rules are good test (Twice name) twice = named.1 name.now twice
-faultless folder options names file taken rates room named rules are good test (OneFile first second) one = tt
-faultless folder options names file taken rates room named rules are good test (UnreadList list) none = none
-faultless folder options names file taken rates room named rules are good test (LongList list) none = none
-faultless folder options names file taken rates room named rules are good test (NotText list number) none = none
+faultless folder options names file taken rates room pages sources named rules are good test (BadTest told) (is, bad) = bad (subst (λ (t : Option (List ℕ)). IsGoodTestIfAny t) is test)
+faultless folder options names file taken rates room pages sources named rules are good test (NoRoom option) (none, asks) = room option none asks
+faultless folder options names file taken rates room pages sources named rules are good test (NoPages option) (none, asks) = pages option none asks
+faultless folder options names file taken rates room pages sources named rules are good test (BadSource word) (within, none) = source_there options.texts.sources word.now sources within none
+faultless folder options names file taken rates room pages sources named rules are good test NoName none = named.0 none
+faultless folder options names file taken rates room pages sources named rules are good test (Twice name) twice = named.1 name.now twice
+faultless folder options names file taken rates room pages sources named rules are good test (OneFile first second) one = tt
+faultless folder options names file taken rates room pages sources named rules are good test (UnreadList list) none = none
+faultless folder options names file taken rates room pages sources named rules are good test (LongList list) none = none
+faultless folder options names file taken rates room pages sources named rules are good test (NotText list number) none = none
 
 -- ---- an option doesn't do
 
@@ -152,6 +170,8 @@ pattern_refused folder options names file option (works.Call (NoRate other word)
 pattern_refused folder options names file option (works.Call (BadPath why word)) none = absurd none
 pattern_refused folder options names file option (works.Call (BadTest test)) none = absurd none
 pattern_refused folder options names file option (works.Call (NoRoom other)) none = absurd none
+pattern_refused folder options names file option (works.Call (NoPages other)) none = absurd none
+pattern_refused folder options names file option (works.Call (BadSource told)) none = absurd none
 pattern_refused folder options names file option (works.Call NoName) none = absurd none
 pattern_refused folder options names file option (works.Call (Twice name)) none = absurd none
 pattern_refused folder options names file option (works.Call (OneFile first second)) none = absurd none
@@ -168,6 +188,8 @@ new_name_refused folder options names file (works.Call (ManyPatterns other)) non
 new_name_refused folder options names file (works.Call (LongPattern other)) none = absurd none
 new_name_refused folder options names file (works.Call (NoRate other word)) none = absurd none
 new_name_refused folder options names file (works.Call (NoRoom other)) none = absurd none
+new_name_refused folder options names file (works.Call (NoPages other)) none = absurd none
+new_name_refused folder options names file (works.Call (BadSource told)) none = absurd none
 new_name_refused folder options names file (works.Call NoName) none = absurd none
 new_name_refused folder options names file (works.Call (Twice name)) none = absurd none
 new_name_refused folder options names file (works.Call (OneFile first second)) none = absurd none
@@ -185,6 +207,8 @@ rate_refused folder options names file option (works.Call (LongPattern other)) n
 rate_refused folder options names file option (works.Call (BadPath why word)) none = absurd none
 rate_refused folder options names file option (works.Call (BadTest test)) none = absurd none
 rate_refused folder options names file option (works.Call (NoRoom other)) none = absurd none
+rate_refused folder options names file option (works.Call (NoPages other)) none = absurd none
+rate_refused folder options names file option (works.Call (BadSource told)) none = absurd none
 rate_refused folder options names file option (works.Call NoName) none = absurd none
 rate_refused folder options names file option (works.Call (Twice name)) none = absurd none
 rate_refused folder options names file option (works.Call (OneFile first second)) none = absurd none
@@ -201,6 +225,8 @@ room_refused folder options names file (works.Call (LongPattern other)) none = a
 room_refused folder options names file (works.Call (NoRate other word)) none = absurd none
 room_refused folder options names file (works.Call (BadPath why word)) none = absurd none
 room_refused folder options names file (works.Call (BadTest test)) none = absurd none
+room_refused folder options names file (works.Call (NoPages other)) none = absurd none
+room_refused folder options names file (works.Call (BadSource told)) none = absurd none
 room_refused folder options names file (works.Call NoName) none = absurd none
 room_refused folder options names file (works.Call (Twice name)) none = absurd none
 room_refused folder options names file (works.Call (OneFile first second)) none = absurd none
@@ -209,8 +235,51 @@ room_refused folder options names file (works.Call (LongList list)) none = absur
 room_refused folder options names file (works.Call (NotText list number)) none = absurd none
 room_refused folder options names file works.Memory none = tt
 
+pub folder_refused : (folder : FolderData) (options : CombineOptions) (names : List (List ℕ)) (file : Option (List ℕ)) (fault : WorkFault)
+    → IsFolderFault options fault → IsWorkFault folder options names file fault
+folder_refused folder options names file (works.Call (NoPages option)) asks = asks
+folder_refused folder options names file (works.Call (BadSource told)) none = absurd none
+folder_refused folder options names file (works.Call (ManyPatterns other)) none = absurd none
+folder_refused folder options names file (works.Call (LongPattern other)) none = absurd none
+folder_refused folder options names file (works.Call (NoRate other word)) none = absurd none
+folder_refused folder options names file (works.Call (BadPath why word)) none = absurd none
+folder_refused folder options names file (works.Call (BadTest test)) none = absurd none
+folder_refused folder options names file (works.Call (NoRoom other)) none = absurd none
+folder_refused folder options names file (works.Call NoName) none = absurd none
+folder_refused folder options names file (works.Call (Twice name)) none = absurd none
+folder_refused folder options names file (works.Call (OneFile first second)) none = absurd none
+folder_refused folder options names file (works.Call (UnreadList list)) none = absurd none
+folder_refused folder options names file (works.Call (LongList list)) none = absurd none
+folder_refused folder options names file (works.Call (NotText list number)) none = absurd none
+folder_refused folder options names file works.Memory none = absurd none
+
+pub source_refused : (folder : FolderData) (options : CombineOptions) (names : List (List ℕ)) (file : Option (List ℕ)) (looked : List (List ℕ)) (fault : WorkFault) → looked ≡ options.texts.sources
+    → IsSourceFault looked fault → IsWorkFault folder options names file fault
+source_refused folder options names file looked (works.Call (BadSource word)) same (within, none) =
+    (subst (λ (ws : List (List ℕ)). Contains ws word.now) same within, none)
+source_refused folder options names file looked (works.Call (NoPages other)) same none = absurd none
+source_refused folder options names file looked (works.Call (ManyPatterns other)) same none = absurd none
+source_refused folder options names file looked (works.Call (LongPattern other)) same none = absurd none
+source_refused folder options names file looked (works.Call (NoRate other word)) same none = absurd none
+source_refused folder options names file looked (works.Call (BadPath why word)) same none = absurd none
+source_refused folder options names file looked (works.Call (BadTest test)) same none = absurd none
+source_refused folder options names file looked (works.Call (NoRoom other)) same none = absurd none
+source_refused folder options names file looked (works.Call NoName) same none = absurd none
+source_refused folder options names file looked (works.Call (Twice name)) same none = absurd none
+source_refused folder options names file looked (works.Call (OneFile first second)) same none = absurd none
+source_refused folder options names file looked (works.Call (UnreadList list)) same none = absurd none
+source_refused folder options names file looked (works.Call (LongList list)) same none = absurd none
+source_refused folder options names file looked (works.Call (NotText list number)) same none = absurd none
+source_refused folder options names file looked works.Memory same none = absurd none
+
+-- the words that were looked at are those of `--source`
+pub sources_taken : (looked words : List (List ℕ)) → looked ≡ words → AreSourceRules looked → AreSourceRules words
+sources_taken looked words same rules = subst (λ (ws : List (List ℕ)). AreSourceRules ws) same rules
+
 pub name_refused : (folder : FolderData) (options : CombineOptions) (names : List (List ℕ)) (file : Option (List ℕ)) (fault : WorkFault)
     → IsNameFault names fault → IsWorkFault folder options names file fault
+name_refused folder options names file (works.Call (NoPages other)) none = absurd none
+name_refused folder options names file (works.Call (BadSource told)) none = absurd none
 name_refused folder options names file (works.Call NoName) is = is
 name_refused folder options names file (works.Call (Twice name)) twice = twice
 name_refused folder options names file (works.Call (ManyPatterns other)) none = absurd none
@@ -234,6 +303,8 @@ one_file_refused folder options names file (works.Call (NoRate other word)) none
 one_file_refused folder options names file (works.Call (BadPath why word)) none = absurd none
 one_file_refused folder options names file (works.Call (BadTest test)) none = absurd none
 one_file_refused folder options names file (works.Call (NoRoom other)) none = absurd none
+one_file_refused folder options names file (works.Call (NoPages other)) none = absurd none
+one_file_refused folder options names file (works.Call (BadSource told)) none = absurd none
 one_file_refused folder options names file (works.Call NoName) none = absurd none
 one_file_refused folder options names file (works.Call (Twice name)) none = absurd none
 one_file_refused folder options names file (works.Call (UnreadList list)) none = absurd none
@@ -250,6 +321,8 @@ word_refused options word (works.Call (LongPattern other)) within none = absurd 
 word_refused options word (works.Call (NoRate other told)) within none = absurd none
 word_refused options word (works.Call (BadTest test)) within none = absurd none
 word_refused options word (works.Call (NoRoom other)) within none = absurd none
+word_refused options word (works.Call (NoPages other)) within none = absurd none
+word_refused options word (works.Call (BadSource told)) within none = absurd none
 word_refused options word (works.Call NoName) within none = absurd none
 word_refused options word (works.Call (Twice name)) within none = absurd none
 word_refused options word (works.Call (OneFile first second)) within none = absurd none
@@ -329,3 +402,20 @@ word_there name words i default within word is all same =
 -- the one test is the option's
 pub same_test : (test asked : Option (List ℕ)) → test ≡ asked → IsGoodTestIfAny test → IsGoodTestIfAny asked
 same_test test asked is good = subst (λ (t : Option (List ℕ)). IsGoodTestIfAny t) is good
+
+-- ---- options of pages
+
+-- a folder is named, so options may say what its pages show
+pub folder_beside : (options : CombineOptions) (name : List ℕ) → option_map string_bytes options.html ≡ Some name → HasFolder options
+folder_beside options name there option none asks = no_file name (sym there ∙ none)
+
+-- no option says what pages show
+pub folder_unasked : (options : CombineOptions) → ((option : CallOption) → AsksForPages option options.texts → ⊥) → HasFolder options
+folder_unasked options unasked option none asks = unasked option asks
+
+some_source : (rule : List ℕ × List ℕ) → (let found : Option (List ℕ × List ℕ) = Some rule in is_some found ≡ false) → ⊥
+some_source rule e = absurd cc
+
+pub no_rule_there : (rule : Option (List ℕ × List ℕ)) → is_some rule ≡ false → rule ≡ None
+no_rule_there None is = refl
+no_rule_there (Some rule) is = absurd (some_source rule is)

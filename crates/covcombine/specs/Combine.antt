@@ -1,10 +1,11 @@
 -- How a call ends once its files are collected.
 use Rattle.std.specs.List.{count_by, flat_map, list_all, list_any}
-use Rattle.std.specs.Prelude.{◌==◌, ◌&&◌, ◌++◌, ℕ, suc, Bool, true, false, not, min, fold, List, [], ◌∷◌, codes, get_or, slice_get, unwrap_or, if◌then◌else◌, Option, None, Some}
+use Rattle.std.specs.Prelude.{◌==◌, ◌&&◌, ◌++◌, ℕ, suc, Bool, true, false, not, min, fold, List, [], ◌∷◌, codes, get_or, slice_get, unwrap_or, option_map, if◌then◌else◌, Option, None, Some}
 use Rattle.covbook.specs.Op.{AnswerData, AcceptedAnswer, ClashAnswer, DroppedAnswer, RenamedAnswer, NoSuchTestAnswer, TextAnswer, EntryData}
 use Rattle.covbook.specs.Step.{ops_in, table_of}
 use Rattle.covcommand.specs.declared.asked.Overview.{Overview}
 use Rattle.covcommand.specs.declared.asked.Overview.TheVariants as overviews
+use Rattle.covcommand.specs.declared.asked.PageTexts.{PageTexts}
 use Rattle.covcommand.specs.declared.asked.Strictness.{Strictness}
 use Rattle.covcommand.specs.declared.asked.Strictness.TheVariants.{Lenient, Strict}
 use Rattle.covcommand.specs.declared.asked.TotalsForm.{TotalsForm}
@@ -27,13 +28,25 @@ use Rattle.covcombine.specs.declared.call_fault.CallOption.{CallOption}
 use Rattle.covcombine.specs.declared.note.Note.{Note}
 use Rattle.covcombine.specs.declared.note.Note.TheVariants.{Unreadable, Strange, NoRecord, Faulty, Merged}
 
--- what a call gives that doesn't fail. `tracefile`: the merged tracefile. `overview`: what is shown of it if it goes into a file. `missed`:
--- lines about rates below their limits
-pub record GivenData : Type 0 where
-  pub warnings : List ℕ
+-- the pages that a call asks for: the folder for them, their texts, and what they show, the chosen source files of a table
+pub record PagesData : Type 0 where
+  pub folder : List ℕ
+  pub texts : PageTexts
+  pub choice : ChoiceData
+  pub strictness : Strictness
+  pub sections : List SectionData
+
+-- the texts that a call gives: the merged tracefile; what is shown of it if it goes into a file; and lines about rates below their limits
+pub record TextsData : Type 0 where
   pub tracefile : List ℕ
   pub overview : List ℕ
   pub missed : List ℕ
+
+-- what a call gives that doesn't fail
+pub record GivenData : Type 0 where
+  pub warnings : List ℕ
+  pub pages : Option PagesData
+  pub texts : TextsData
 
 -- how a call ends. `Fails`: with this status and these lines; no counts are printed, and no file is written
 pub data EndingData : Type 0 where
@@ -201,13 +214,25 @@ overview_text overviews.Summary Json choice sections = summary_json_of (totals_o
 overview_text overviews.List Words choice sections = list_table_of (chosen_files choice sections) (totals_of_chosen choice sections)
 overview_text overviews.List Json choice sections = list_json_of (chosen_files choice sections) (totals_of_chosen choice sections)
 
+-- the pages of this table in this folder
+abbrev pub pages_in : CombineData → List SectionData → (folder : List ℕ) → PagesData
+pages_in work sections folder =
+    record { folder = folder; texts = work.texts; choice = work.choice; strictness = work.strictness; sections = sections }
+
+-- the pages of this table, if the call asks for some
+abbrev pub pages_asked : CombineData → List SectionData → Option PagesData
+pages_asked work sections = option_map (pages_in work sections) work.html
+
 -- what a call gives of the chosen source files of this table
 abbrev pub given : (warnings : List ℕ) → CombineData → List SectionData → GivenData
 given warnings work sections = record {
   warnings = warnings;
-  tracefile = report_text work.choice sections;
-  overview = overview_text work.overview work.form work.choice sections;
-  missed = shortfalls work.limits (totals_of_chosen work.choice sections);
+  pages = pages_asked work sections;
+  texts = record {
+    tracefile = report_text work.choice sections;
+    overview = overview_text work.overview work.form work.choice sections;
+    missed = shortfalls work.limits (totals_of_chosen work.choice sections);
+  };
 }
 
 -- warnings stand before what the call fails for, so the last lines of a log say why

@@ -17,11 +17,13 @@ use Rattle.covworkers.specs.declared.refused.RefusedInput.{RefusedInput}
 use Rattle.covread.specs.Outcome.{max_bytes}
 use Rattle.covstream.specs.Blocks.{HasReadAtMost}
 use Rattle.covworld.specs.Folder.{FolderData, IsTextOf}
-use Rattle.covworld.specs.OutputFiles.{IsWritten}
+use Rattle.covpages.specs.Pages.{PagesWorkData, AreUnwritten, IsWritten as ArePagesWritten, pages_status, pages_work}
+use Rattle.covpages.specs.declared.fault.PagesFault.{PagesFault}
+use Rattle.covworld.specs.OutputFiles.{IsWritten, OutputFilesData}
 use Rattle.covworld.specs.Streams.{SinksData, SourceData, Complains, IsSilent, PutsOut, Withholds}
 use Rattle.covworld.specs.World.{WorldData}
-use Rattle.covcombine.specs.Combine.{EndingData, Fails, Gives, end_of}
-use Rattle.covcombine.specs.Messages.{call_fault_line, cut_line, expected_line, unwritten_line}
+use Rattle.covcombine.specs.Combine.{EndingData, Fails, Gives, PagesData, TextsData, end_of}
+use Rattle.covcombine.specs.Messages.{call_fault_line, cut_line, expected_line, pages_lines, unwritten_line}
 use Rattle.covcombine.specs.FileNames.{AreNamesOf, InFile, InInput, IsListRead, ListPlace, cut_at, end_byte, name_of_list, place_of}
 use Rattle.covcombine.specs.Notes.{IsOfFile}
 use Rattle.covcombine.specs.Options.{AreJobsFor, CombineData, IsCallFault, IsWorkOf}
@@ -71,23 +73,57 @@ IsPrinted cut text warnings missed status old new =
     ((status ≡ given_status missed) × PutsOut text old new × Tells (warnings ++ missed) old new)
     ⊎ ((status ≡ 1) × HasBegun old.output new.output text × (new.failed_output ≡ suc old.failed_output) × Complains (warnings ++ cut) old new)
 
--- the file couldn't be written. No file is finished, nothing is printed, and the last line says so
-abbrev pub IsUnfiled : (name warnings : List ℕ) → (status : ℕ) → WorldData → WorldData → Type 0
-IsUnfiled name warnings status old new =
+-- the call failed with this status and these lines. Nothing is printed, and no file is written
+abbrev pub HasFailed : (failed : ℕ) → (lines : List ℕ) → (status : ℕ) → WorldData → WorldData → Type 0
+HasFailed failed lines status old new = (status ≡ failed) × (new.files ≡ old.files) × Withholds old.sinks new.sinks × Complains lines old.sinks new.sinks
+
+-- the file couldn't be written. No file is finished, nothing is printed, and the last line says so. `pages`: the folder that was written before
+abbrev pub IsUnfiled : (name : List ℕ) → (pages : Option (List ℕ)) → (warnings : List ℕ) → (status : ℕ) → WorldData → WorldData → Type 0
+IsUnfiled name pages warnings status old new =
     (status ≡ 1) × (new.files.finished ≡ old.files.finished) × (new.files.names ≡ old.files.names) × (new.files.begun ≡ old.files.begun)
     × (new.files.failed ≡ suc old.files.failed)
-    × Withholds old.sinks new.sinks × Complains (warnings ++ unwritten_line name) old.sinks new.sinks
+    × Withholds old.sinks new.sinks × Complains (warnings ++ unwritten_line name pages) old.sinks new.sinks
 
--- how an ending is reported. `file`: the name of the file that the call names, unless that is standard output. The file is finished with
--- the whole tracefile, and only then the overview is printed
-abbrev pub IsReported : (file : Option (List ℕ)) → EndingData → (status : ℕ) → WorldData → WorldData → Type 0
-IsReported file (Fails failed lines) status old new =
-    (status ≡ failed) × (new.files ≡ old.files) × Withholds old.sinks new.sinks × Complains lines old.sinks new.sinks
-IsReported None (Gives given) status old new =
-    (new.files ≡ old.files) × IsPrinted (cut_line None) given.tracefile given.warnings given.missed status old.sinks new.sinks
-IsReported (Some name) (Gives given) status old new =
-    (IsWritten name given.tracefile old.files new.files × IsPrinted (cut_line (Some name)) given.overview given.warnings given.missed status old.sinks new.sinks)
-    ⊎ IsUnfiled name given.warnings status old new
+-- how the texts of a call are given. `file`: the name of the file that the call names, unless that is standard output. The file is finished
+-- with the whole tracefile, and only then the overview is printed
+abbrev pub AreGiven : (file pages : Option (List ℕ)) → TextsData → (warnings : List ℕ) → (status : ℕ) → WorldData → WorldData → Type 0
+AreGiven None pages texts warnings status old new =
+    (new.files ≡ old.files) × IsPrinted (cut_line None pages) texts.tracefile warnings texts.missed status old.sinks new.sinks
+AreGiven (Some name) pages texts warnings status old new =
+    (IsWritten name texts.tracefile old.files new.files × IsPrinted (cut_line (Some name) pages) texts.overview warnings texts.missed status old.sinks new.sinks)
+    ⊎ IsUnfiled name pages warnings status old new
+
+-- or memory ran out before
+abbrev pub AreGivenIfRoom : (file pages : Option (List ℕ)) → TextsData → (warnings : List ℕ) → (status : ℕ) → WorldData → WorldData → Type 0
+AreGivenIfRoom file pages texts warnings status old new =
+    AreGiven file pages texts warnings status old new ⊎ HasFailed 3 (said (words_of_fault sessions.Memory)) status old new
+
+-- ---- pages
+
+abbrev pub work_of_pages : FolderData → PagesData → PagesWorkData
+work_of_pages folder pages = pages_work folder pages.folder pages.texts pages.choice pages.strictness
+
+-- the pages couldn't be written. Then nothing else is
+abbrev pub HasNoPages : FolderData → PagesData → (warnings : List ℕ) → (status : ℕ) → WorldData → WorldData → Type 0
+HasNoPages folder pages warnings status old new =
+    (fault : PagesFault) × AreUnwritten (work_of_pages folder pages) pages.sections fault old.files new.files × (new.files.begun ≡ old.files.begun)
+    × (status ≡ pages_status fault) × Withholds old.sinks new.sinks × Complains (pages_lines warnings pages.folder fault) old.sinks new.sinks
+
+-- the pages are written, with more warnings, and then the texts are given. The pages stand however that ends
+abbrev pub HasPages : FolderData → (file : Option (List ℕ)) → PagesData → TextsData → (warnings : List ℕ) → (status : ℕ) → WorldData → WorldData → Type 0
+HasPages folder file pages texts warnings status old new =
+    (more : List ℕ) × (between : OutputFilesData) × ArePagesWritten (work_of_pages folder pages) pages.sections old.files between more
+    × AreGivenIfRoom file (Some pages.folder) texts (warnings ++ more) status (record old { files = between }) new
+
+abbrev pub AreGivenWith : FolderData → (file : Option (List ℕ)) → Option PagesData → TextsData → (warnings : List ℕ) → (status : ℕ) → WorldData → WorldData → Type 0
+AreGivenWith folder file None texts warnings status old new = AreGiven file None texts warnings status old new
+AreGivenWith folder file (Some pages) texts warnings status old new =
+    HasNoPages folder pages warnings status old new ⊎ HasPages folder file pages texts warnings status old new
+
+-- how an ending is reported. `folder`: has the source files
+abbrev pub IsReported : FolderData → (file : Option (List ℕ)) → EndingData → (status : ℕ) → WorldData → WorldData → Type 0
+IsReported folder file (Fails failed lines) status old new = HasFailed failed lines status old new
+IsReported folder file (Gives given) status old new = AreGivenWith folder file given.pages given.texts given.warnings status old new
 
 -- ---- the whole call
 
@@ -155,4 +191,4 @@ MayEnd folder options strictness file ending before after =
 -- a call of `combine` has an end, which is reported. The input is read for a list in it alone
 abbrev pub IsCombineCall : FolderData → CombineOptions → Strictness → (file : Option (List ℕ)) → (status : ℕ) → WorldData → WorldData → Type 0
 IsCombineCall folder options strictness file status old new =
-    (ending : EndingData) × MayEnd folder options strictness file ending old.input new.input × IsReported file ending status old new
+    (ending : EndingData) × MayEnd folder options strictness file ending old.input new.input × IsReported folder file ending status old new

@@ -1,4 +1,5 @@
 pub use Rattle.covcommand.specs.Asked
+pub use Rattle.covpages.specs.Pages
 pub use Rattle.covworld.specs.Folder
 pub use Rattle.covworld.specs.OutputFiles
 pub use Rattle.covworld.specs.Streams

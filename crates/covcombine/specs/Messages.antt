@@ -7,13 +7,17 @@ use Rattle.covdata.specs.declared.fault.ReadFault.TheVariants as faults
 use Rattle.covdata.specs.declared.trace_line.LineFault.{LineFault}
 use Rattle.covdata.specs.declared.trace_line.LineFault.TheVariants.{BadLine, EmptyPath, NumberTooLarge}
 use Rattle.covlist.specs.Shown.{shown_name}
+use Rattle.covpages.specs.declared.fault.PagesFault.{PagesFault}
+use Rattle.covpages.specs.declared.fault.PagesFault.TheVariants as pages_faults
 use Rattle.covpaths.specs.Paths.{RuleData}
 use Rattle.covpaths.specs.declared.rule.RuleFault.{RuleFault}
 use Rattle.covpaths.specs.declared.rule.RuleFault.TheVariants as rules
+use Rattle.covsession.specs.Program.{words_of_fault}
 use Rattle.covsession.specs.Session.{said}
+use Rattle.covsession.specs.declared.session.fault.SessionFault.TheVariants as sessions
 use Rattle.covtable.specs.Clash.{ClashData}
 use Rattle.covcombine.specs.declared.call_fault.CallFault.{CallFault}
-use Rattle.covcombine.specs.declared.call_fault.CallFault.TheVariants.{ManyPatterns, LongPattern, NoRate, BadPath, BadTest, NoRoom, NoName, Twice, OneFile, UnreadList, LongList, NotText}
+use Rattle.covcombine.specs.declared.call_fault.CallFault.TheVariants.{ManyPatterns, LongPattern, NoRate, BadPath, BadTest, NoRoom, NoPages, BadSource, NoName, Twice, OneFile, UnreadList, LongList, NotText}
 use Rattle.covcombine.specs.declared.call_fault.CallOption.{CallOption}
 use Rattle.covcombine.specs.declared.call_fault.CallOption.TheVariants as options
 use Rattle.covcombine.specs.declared.stranger.Stranger.{Stranger}
@@ -120,13 +124,26 @@ clash_line clash =
 abbrev pub expected_line : (expected read : ℕ) → List ℕ
 expected_line expected read = said (codes "expected " ++ (counted expected (codes "file") (codes "files") ++ (codes ", but read " ++ decimal read)))
 
-abbrev pub unwritten_line : (name : List ℕ) → List ℕ
-unwritten_line name = told name (codes "can't be written")
+-- what was written before: a file, a folder of pages, or both
+abbrev pub but_written : (file pages : Option (List ℕ)) → List ℕ
+but_written None None = []
+but_written (Some name) None = codes ", but " ++ (shown_name name ++ codes " is")
+but_written None (Some folder) = codes ", but " ++ (shown_name folder ++ codes " is")
+but_written (Some name) (Some folder) = codes ", but " ++ (shown_name name ++ (codes " and " ++ (shown_name folder ++ codes " are")))
 
--- standard output can't be written. `file`: the file that was written before
-abbrev pub cut_line : (file : Option (List ℕ)) → List ℕ
-cut_line None = said (codes "standard output can't be written")
-cut_line (Some name) = said (codes "standard output can't be written, but " ++ (shown_name name ++ codes " is"))
+-- the file, or standard output, can't be written
+abbrev pub unwritten_line : (name : List ℕ) → (pages : Option (List ℕ)) → List ℕ
+unwritten_line name pages = told name (codes "can't be written" ++ but_written None pages)
+
+abbrev pub cut_line : (file pages : Option (List ℕ)) → List ℕ
+cut_line file pages = said (codes "standard output can't be written" ++ but_written file pages)
+
+-- pages can't be written into the folder. `warnings`: the lines before
+abbrev pub pages_lines : (warnings folder : List ℕ) → PagesFault → List ℕ
+pages_lines warnings folder pages_faults.Foreign = warnings ++ told folder (codes "has files that html didn't write")
+pages_lines warnings folder pages_faults.Unwritten = warnings ++ unwritten_line folder None
+pages_lines warnings folder (pages_faults.Refused lines) = warnings ++ lines
+pages_lines warnings folder pages_faults.Memory = said (words_of_fault sessions.Memory)
 
 -- ---- options that don't do
 
@@ -138,6 +155,9 @@ option_name options.FailUnderFunctions = codes "--fail-under-functions"
 option_name options.FailUnderBranches = codes "--fail-under-branches"
 option_name options.List = codes "--list"
 option_name options.Json = codes "--json"
+option_name options.Title = codes "--title"
+option_name options.Date = codes "--date"
+option_name options.Source = codes "--source"
 
 abbrev pub error_line : (words : List ℕ) → List ℕ
 error_line words = said (codes "error: " ++ words)
@@ -158,6 +178,8 @@ call_fault_line (BadPath fault word) = error_line (codes "--path " ++ (shown_nam
 call_fault_line (BadTest test) =
     error_line (codes "--one-test=" ++ (shown_name test.now ++ codes ": a test's name has no line feed, and no carriage return at its end"))
 call_fault_line (NoRoom option) = error_line (option_name option ++ codes ": needs -o FILE, since standard output has the tracefile")
+call_fault_line (NoPages option) = error_line (option_name option ++ codes ": needs --html DIR")
+call_fault_line (BadSource word) = error_line (codes "--source " ++ (shown_name word.now ++ codes ": OLD=NEW was expected"))
 call_fault_line NoName = error_line (codes "no file is named: did a pattern match nothing?")
 call_fault_line (Twice name) = told name.now (codes "named twice")
 call_fault_line (OneFile first second) = told second.now (codes "the same file as " ++ shown_name first.now)

@@ -1,9 +1,11 @@
 -- What the options of a call ask for, and which of them don't do.
-use Rattle.std.specs.Prelude.{◌≡◌, ◌<◌, ◌≤◌, ℕ, List, [], ◌∷◌, ◌++◌, length, map, Option, None, Some, Contains}
+use Rattle.std.specs.Prelude.{◌≡◌, ◌<◌, ◌≤◌, ℕ, List, [], ◌∷◌, ◌++◌, length, map, option_map, Option, None, Some, Contains}
+use Rattle.std.specs.String.{string_bytes}
 use Rattle.covcommand.specs.declared.asked.CombineOptions.{CombineOptions}
 use Rattle.covcommand.specs.declared.asked.Limits.{Limits}
 use Rattle.covcommand.specs.declared.asked.Overview.{Overview}
 use Rattle.covcommand.specs.declared.asked.Overview.TheVariants as overviews
+use Rattle.covcommand.specs.declared.asked.PageTexts.{PageTexts}
 use Rattle.covcommand.specs.declared.asked.SourceFilter.{SourceFilter}
 use Rattle.covcommand.specs.declared.asked.Strictness.{Strictness}
 use Rattle.covcommand.specs.declared.asked.TotalsForm.{TotalsForm}
@@ -11,19 +13,20 @@ use Rattle.covcommand.specs.declared.asked.TotalsForm.TheVariants.{Json}
 use Rattle.covdata.specs.Lawful.{IsGoodTest}
 use Rattle.covlimit.specs.Limits.{LimitsData}
 use Rattle.covlimit.specs.Rates.{IsRate}
+use Rattle.covpages.specs.Sources.{rule_of as source_rule_of}
 use Rattle.covpaths.specs.Names.{AreGoodNames, NamesData}
 use Rattle.covpaths.specs.Paths.{IsRuleFault, RuleData, rule_of}
 use Rattle.covreport.specs.Choice.{ChoiceData, AllFiles, Filtered, max_pattern_bytes, max_patterns}
 use Rattle.covworld.specs.Folder.{FolderData}
 use Rattle.covcombine.specs.FileNames.{AreApart, AreOneFile}
 use Rattle.covcombine.specs.declared.call_fault.CallFault.{CallFault}
-use Rattle.covcombine.specs.declared.call_fault.CallFault.TheVariants.{ManyPatterns, LongPattern, NoRate, BadPath, BadTest, NoRoom, NoName, Twice, OneFile, UnreadList, LongList, NotText}
+use Rattle.covcombine.specs.declared.call_fault.CallFault.TheVariants.{ManyPatterns, LongPattern, NoRate, BadPath, BadTest, NoRoom, NoPages, BadSource, NoName, Twice, OneFile, UnreadList, LongList, NotText}
 use Rattle.covcombine.specs.declared.call_fault.CallOption.{CallOption}
-use Rattle.covcombine.specs.declared.call_fault.CallOption.TheVariants.{Include, Exclude, FailUnderLines, FailUnderFunctions, FailUnderBranches, List as ShowList, Json as PrintJson}
+use Rattle.covcombine.specs.declared.call_fault.CallOption.TheVariants.{Include, Exclude, FailUnderLines, FailUnderFunctions, FailUnderBranches, List as ShowList, Json as PrintJson, Title, Date, Source}
 
 -- what a call has to do. `files`: the files to read. `new`: the names under which counts are added up. `choice`: the source files
--- that are printed and counted. `overview` and `form`: what standard output has if the tracefile goes into a file. `expected`: how
--- many files have to be read
+-- that are printed and counted. `overview` and `form`: what standard output has if the tracefile goes into a file. `html` and `texts`:
+-- the folder for pages, and their texts. `expected`: how many files have to be read
 pub record CombineData : Type 0 where
   pub files : List (List ℕ)
   pub new : NamesData
@@ -31,6 +34,8 @@ pub record CombineData : Type 0 where
   pub choice : ChoiceData
   pub overview : Overview
   pub form : TotalsForm
+  pub html : Option (List ℕ)
+  pub texts : PageTexts
   pub limits : LimitsData
   pub expected : Option ℕ
 
@@ -53,6 +58,13 @@ AsksForOverview ShowList options = options.overview ≡ overviews.List
 AsksForOverview PrintJson options = options.form ≡ Json
 AsksForOverview other options = ⊥
 
+-- the option is given, and says what pages show
+abbrev pub AsksForPages : CallOption → PageTexts → Type 0
+AsksForPages Title texts = texts.title ≡ None → ⊥
+AsksForPages Date texts = texts.date ≡ None → ⊥
+AsksForPages Source texts = texts.sources ≡ [] → ⊥
+AsksForPages other texts = ⊥
+
 -- a name stands twice
 abbrev pub IsTwice : List (List ℕ) → (name : List ℕ) → Type 0
 IsTwice names name = (before after : List (List ℕ)) × (names ≡ before ++ name ∷ after) × Contains before name
@@ -66,6 +78,8 @@ IsCallFault folder options names file (NoRate option word) = (limit_in option op
 IsCallFault folder options names file (BadPath fault word) = Contains options.paths word.now × IsRuleFault word.now fault
 IsCallFault folder options names file (BadTest test) = (options.test ≡ Some test.now) × (IsGoodTest test.now → ⊥)
 IsCallFault folder options names file (NoRoom option) = (file ≡ None) × AsksForOverview option options
+IsCallFault folder options names file (NoPages option) = (option_map string_bytes options.html ≡ None) × AsksForPages option options.texts
+IsCallFault folder options names file (BadSource word) = Contains options.texts.sources word.now × (source_rule_of word.now ≡ None)
 IsCallFault folder options names file NoName = names ≡ []
 IsCallFault folder options names file (Twice name) = IsTwice names name.now
 IsCallFault folder options names file (OneFile first second) = AreOneFile folder names first.now second.now
@@ -105,6 +119,8 @@ pub record IsWorkOf (folder : FolderData) (options : CombineOptions) (names : Li
   pub choice : work.choice ≡ choice_by options.filter.includes options.filter.excludes
   pub overview : work.overview ≡ options.overview
   pub form : work.form ≡ options.form
+  pub html : work.html ≡ option_map string_bytes options.html
+  pub texts : work.texts ≡ options.texts
   pub limits : work.limits ≡ limits_of options.limits
   pub expected : work.expected ≡ options.expected
 

@@ -1,8 +1,10 @@
 -- Private steps: how a tracefile is read part by part, and what is refused before.
 use Rattle.std.specs.List.{AllByRecursion, flat_map, sum_by}
-use Rattle.std.specs.Prelude.{◌≡◌, ◌⊎◌, ◌+◌, ◌^◌, ◌<◌, ◌≤◌, ℕ, Bool, List, [], length, map, Option, None, Some, Result, Ok, Err, Contains}
+use Rattle.std.specs.Prelude.{◌≡◌, ◌⊎◌, ◌+◌, ◌^◌, ◌<◌, ◌≤◌, ℕ, Bool, List, [], length, map, option_map, Option, None, Some, Result, Ok, Err, Contains}
+use Rattle.std.specs.String.{string_bytes}
 use Rattle.covbook.specs.Op.{EntryData}
 use Rattle.covcommand.specs.declared.asked.CombineOptions.{CombineOptions}
+use Rattle.covcommand.specs.declared.asked.PageTexts.{PageTexts}
 use Rattle.covcommand.specs.declared.asked.Strictness.{Strictness}
 use Rattle.covcommand.specs.declared.asked.Strictness.TheVariants.{Lenient, Strict}
 use Rattle.covdata.specs.Lawful.{IsGoodTest}
@@ -14,6 +16,9 @@ use Rattle.covlarge.specs.Summary.{SummaryData, told_number}
 use Rattle.covlarge.specs.declared.fault.PieceFault.{PieceFault}
 use Rattle.covlarge.specs.declared.fault.PieceFault.TheVariants as pieces
 use Rattle.covlimit.specs.Rates.{IsRate}
+use Rattle.covpages.specs.Pages.{pages_status}
+use Rattle.covpages.specs.declared.fault.PagesFault.{PagesFault}
+use Rattle.covpages.specs.Sources.{rule_of as source_rule_of}
 use Rattle.covpaths.specs.Names.{NamesData, named, used_after}
 use Rattle.covpaths.specs.Paths.{IsRuleFault, RuleData}
 use Rattle.covreport.specs.Choice.{max_pattern_bytes, max_patterns}
@@ -31,12 +36,13 @@ use Rattle.covworkers.specs.declared.late_fault.LateFault.{LateFault}
 use Rattle.covworkers.specs.declared.late_fault.LateFault.TheVariants as late
 use Rattle.covworkers.specs.declared.refused.RefusedInput.{RefusedInput}
 use Rattle.covworld.specs.Folder.{FolderData}
-use Rattle.covworld.specs.Streams.{CanWrite}
+use Rattle.covworld.specs.Streams.{CanWrite, Complains, SinksData, Withholds}
 use Rattle.covworld.specs.World.{WorldData}
 use Rattle.covcombine.specs.FileNames.{AreApart, AreOneFile}
+use Rattle.covcombine.specs.Messages.{pages_lines}
 use Rattle.covcombine.specs.Notes.{IsOfFile, note_of}
-use Rattle.covcombine.specs.Options.{AsksForOverview, CombineData, IsCallFault, IsTwice}
-use Rattle.covcombine.specs.declared.call_fault.CallFault.TheVariants.{ManyPatterns, LongPattern, NoRate, BadPath, BadTest, NoRoom, NoName, Twice, OneFile}
+use Rattle.covcombine.specs.Options.{AsksForOverview, AsksForPages, CombineData, IsCallFault, IsTwice}
+use Rattle.covcombine.specs.declared.call_fault.CallFault.TheVariants.{ManyPatterns, LongPattern, NoRate, BadPath, BadTest, NoRoom, NoPages, BadSource, NoName, Twice, OneFile}
 use Rattle.covcombine.specs.declared.call_fault.CallOption.{CallOption}
 use Rattle.covcombine.specs.declared.call_fault.WorkFault.{WorkFault}
 use Rattle.covcombine.specs.declared.call_fault.WorkFault.TheVariants as works
@@ -172,6 +178,11 @@ pub record CanReport (world : WorldData) : Type 0 where
   pub files : world.files.failed < 2 ^ 62
   pub sinks : CanWrite world.sinks
 
+-- it is told, after these warnings, that pages weren't written for this reason
+abbrev pub IsPagesFaultTold : (warnings folder : List ℕ) → PagesFault → (status : ℕ) → SinksData → SinksData → Type 0
+IsPagesFaultTold warnings folder fault status old new =
+    (status ≡ pages_status fault) × Withholds old new × Complains (pages_lines warnings folder fault) old new
+
 -- ---- options
 
 -- the patterns of an option are taken
@@ -251,6 +262,27 @@ abbrev pub IsRoomFault : CombineOptions → (file : Option (List ℕ)) → WorkF
 IsRoomFault options file (works.Call (NoRoom option)) = (file ≡ None) × AsksForOverview option options
 IsRoomFault options file (works.Call other) = ⊥
 IsRoomFault options file works.Memory = ⊥
+
+-- an option that says what pages show; `None` if none is given
+abbrev pub IsOptionIfAny : PageTexts → Option CallOption → Type 0
+IsOptionIfAny texts None = (option : CallOption) → AsksForPages option texts → ⊥
+IsOptionIfAny texts (Some option) = AsksForPages option texts
+
+-- a folder for pages is named, or no option says what pages show
+abbrev pub HasFolder : CombineOptions → Type 0
+HasFolder options = (option : CallOption) → option_map string_bytes options.html ≡ None → AsksForPages option options.texts → ⊥
+
+-- an option says what pages show, and no folder for them is named
+abbrev pub IsFolderFault : CombineOptions → WorkFault → Type 0
+IsFolderFault options (works.Call (NoPages option)) = (option_map string_bytes options.html ≡ None) × AsksForPages option options.texts
+IsFolderFault options (works.Call other) = ⊥
+IsFolderFault options works.Memory = ⊥
+
+-- a word doesn't say where source files lie
+abbrev pub IsSourceFault : (words : List (List ℕ)) → WorkFault → Type 0
+IsSourceFault words (works.Call (BadSource word)) = Contains words word.now × (source_rule_of word.now ≡ None)
+IsSourceFault words (works.Call other) = ⊥
+IsSourceFault words works.Memory = ⊥
 
 -- the work isn't begun: for a fault of the call, or since memory ran out
 abbrev pub IsWorkFault : FolderData → CombineOptions → (names : List (List ℕ)) → (file : Option (List ℕ)) → WorkFault → Type 0

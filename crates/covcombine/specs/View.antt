@@ -1,13 +1,16 @@
 -- Values of the code, seen as plain data.
-use Rattle.std.specs.Prelude.{map}
+use Rattle.std.specs.Prelude.{map, option_map}
 use Rattle.std.specs.String.{string_bytes}
 use Rattle.covlimit.specs.LimitsView.{limits_data}
 use Rattle.covreport.specs.ChoiceView.{choice_data}
-use Rattle.covcombine.specs.Combine.{EndingData, Fails, Gives, GivenData}
+use Rattle.covtable.specs.Shown.{ShownData}
+use Rattle.covcombine.specs.Combine.{EndingData, Fails, Gives, GivenData, PagesData, TextsData}
 use Rattle.covcombine.specs.Options.{CombineData}
 use Rattle.covcombine.specs.declared.ending.Ending.{Ending}
 use Rattle.covcombine.specs.declared.ending.Ending.TheVariants as endings
 use Rattle.covcombine.specs.declared.ending.Given.{Given}
+use Rattle.covcombine.specs.declared.ending.Pages.{Pages}
+use Rattle.covcombine.specs.declared.ending.Texts.{Texts}
 use Rattle.covcombine.specs.declared.work.Work.{Work}
 
 abbrev pub work_data : Work → CombineData
@@ -18,14 +21,30 @@ work_data work = record {
   choice = choice_data work.choice;
   overview = work.overview;
   form = work.form;
+  html = option_map (λ name. name.now) work.html;
+  texts = work.texts.now;
   limits = limits_data work.limits;
   expected = work.expected;
 }
 
-abbrev pub given_data : {T Plan Renaming : Type 0} → Given T Plan Renaming → GivenData
-given_data given = record { warnings = given.warnings; tracefile = given.tracefile; overview = given.overview; missed = given.missed }
+abbrev pub texts_data : {T Plan Renaming : Type 0} → Texts T Plan Renaming → TextsData
+texts_data texts = record { tracefile = texts.tracefile; overview = texts.overview; missed = texts.missed }
 
-abbrev pub ending_data : {T Plan Renaming : Type 0} → Ending T Plan Renaming → EndingData
-ending_data (endings.Stopped line) = Fails 3 line.now
-ending_data (endings.Fails status lines) = Fails status lines
-ending_data (endings.Gives given) = Gives (given_data given)
+-- `shown`: what a table has
+abbrev pub pages_data : {T : Type 0} → (shown : T → ShownData) → Pages T → PagesData
+pages_data shown pages = record {
+  folder = pages.folder.now;
+  texts = pages.texts.now;
+  choice = choice_data pages.choice;
+  strictness = pages.strictness;
+  sections = (shown pages.table.now).sections;
+}
+
+abbrev pub given_data : {T Plan Renaming : Type 0} → (shown : T → ShownData) → Given T Plan Renaming → GivenData
+given_data shown given =
+    record { warnings = given.warnings; pages = option_map (λ pages. pages_data shown pages) given.pages; texts = texts_data given.texts }
+
+abbrev pub ending_data : {T Plan Renaming : Type 0} → (shown : T → ShownData) → Ending T Plan Renaming → EndingData
+ending_data shown (endings.Stopped line) = Fails 3 line.now
+ending_data shown (endings.Fails status lines) = Fails status lines
+ending_data shown (endings.Gives given) = Gives (given_data shown given)

@@ -20,6 +20,12 @@ pub(crate) enum CallOption {
     List,
     /// `--json`
     Json,
+    /// `--title`
+    Title,
+    /// `--date`
+    Date,
+    /// `--source`
+    Source,
 }
 
 impl CallOption {
@@ -38,6 +44,9 @@ impl CallOption {
             CallOption::FailUnderBranches => b"--fail-under-branches",
             CallOption::List => b"--list",
             CallOption::Json => b"--json",
+            CallOption::Title => b"--title",
+            CallOption::Date => b"--date",
+            CallOption::Source => b"--source",
         }
     }
 }
@@ -57,6 +66,10 @@ pub(crate) enum CallFault<'a> {
     BadTest(&'a [u8]),
     /// The option asks for an overview, but standard output has the tracefile.
     NoRoom(CallOption),
+    /// The option says what pages show, but no folder for pages is named.
+    NoPages(CallOption),
+    /// This word of `--source` is no rule.
+    BadSource(&'a str),
     /// No file is named.
     NoName,
     /// This file is named twice.

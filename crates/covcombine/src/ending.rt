@@ -1,6 +1,6 @@
 //! How a call ends.
 
-ghost use Rattle.std.specs.Prelude.{◌≡◌, ◌++◌, [], not, map, slice_get, unwrap_or, IfOk, OnOk};
+ghost use Rattle.std.specs.Prelude.{◌≡◌, ◌++◌, [], not, map, slice_get, unwrap_or, option_map, IfOk, OnOk};
 ghost use Rattle.std.specs.List.{list_all};
 ghost use Rattle.std.specs.String.{string_bytes};
 ghost use Rattle.covbook.specs.EntryView.{entry_data};
@@ -8,9 +8,9 @@ ghost use Rattle.covbook.specs.View.{answer_data};
 ghost use Rattle.covtable.specs.ValuesView.{file_totals_data};
 ghost use Rattle.covreport.specs.ChoiceView.{choice_data};
 ghost use Rattle.covworkers.specs.Late.{MayComeAtAll};
-ghost use Rattle.covcombine.specs.Combine.{answer_status as status_of_answer, clash_lines, clash_of_answer, end_of as ends_with, failure_status as worst_status, failures as failures_of, given as given_of, is_clash as is_clash_answer, is_merged, is_used as is_used_rule, is_whole as is_whole_call, judged_by, lines_by, merged_in, misfits_told, overview_text, pattern_lines, refusal_of, unexpected, unmatched, unused_from, warning_of, warnings as warnings_of};
+ghost use Rattle.covcombine.specs.Combine.{answer_status as status_of_answer, clash_lines, clash_of_answer, end_of as ends_with, failure_status as worst_status, failures as failures_of, given as given_of, is_clash as is_clash_answer, is_merged, is_used as is_used_rule, is_whole as is_whole_call, judged_by, lines_by, merged_in, misfits_told, overview_text, pages_asked, pattern_lines, refusal_of, unexpected, unmatched, unused_from, warning_of, warnings as warnings_of};
 ghost use Rattle.covcombine.specs.Combined.{of_call_fault, of_collecting, out_of_memory};
-ghost use Rattle.covcombine.specs.View.{ending_data, given_data, work_data};
+ghost use Rattle.covcombine.specs.View.{ending_data, given_data, pages_data, texts_data, work_data};
 
 use crate::call_fault::{CallFault, CallOption};
 use crate::messages::{
@@ -20,7 +20,7 @@ use crate::messages::{
 use crate::note::Note;
 use crate::work::Work;
 use covbook::{Answer, Answered};
-use covcommand::{Overview, Strictness, TotalsForm};
+use covcommand::{Overview, PageTexts, Strictness, TotalsForm};
 use covdata::{Bytes, Memory};
 use covlimit::shortfall_lines;
 use covlist::{list_json, list_table, matches_a_file, summary_json, takes_a_file};
@@ -43,11 +43,35 @@ pub(crate) enum Ending<'b, T: Table<Global>> {
     Gives(Given<'b, T>),
 }
 
-/// What a call gives. All memory for printing is reserved.
+/// What a call gives.
 #[derive(Drop)]
 pub(crate) struct Given<'b, T: Table<Global>> {
     /// The warnings.
     pub(crate) warnings: Bytes,
+    /// The pages, if the call asks for some.
+    pub(crate) pages: Option<Pages<'b, T>>,
+    /// What is printed.
+    pub(crate) texts: Texts<'b, T>,
+}
+
+/// The pages that a call asks for.
+#[derive(Drop)]
+pub(crate) struct Pages<'b, T> {
+    /// The name of the folder for the pages.
+    pub(crate) folder: &'b str,
+    /// The texts of the pages.
+    pub(crate) texts: &'b PageTexts,
+    /// The source files that are shown.
+    pub(crate) choice: Choice,
+    /// Whether source files whose text can't be shown are refused.
+    pub(crate) strictness: Strictness,
+    /// Has the counts.
+    pub(crate) table: &'b T,
+}
+
+/// The texts that a call gives. All memory for printing is reserved.
+#[derive(Drop)]
+pub(crate) struct Texts<'b, T: Table<Global>> {
     /// The merged tracefile.
     pub(crate) tracefile: ReadyText<'b, T>,
     /// What is shown of the tracefile if it goes into a file.
@@ -58,7 +82,7 @@ pub(crate) struct Given<'b, T: Table<Global>> {
 
 /// The ending of a call for which memory ran out.
 pub(crate) fn no_memory<'b, T: Table<Global>>() -> Ending<'b, T>
-    ensures { ending_data result ≡ out_of_memory }
+    ensures { ending_data T.shown result ≡ out_of_memory }
 {
     Ending::Stopped(line_of(SessionFault::Memory))
 }
@@ -69,7 +93,7 @@ pub(crate) fn end_for_fault<'b, T: Table<Global>>(
     expected: Option<u32>,
     fault: CallFault<'_>,
 ) -> Result<Ending<'b, T>, Memory>
-    ensures { IfOk result (λ ending. ending_data ending ≡ of_call_fault expected fault.entry) }
+    ensures { IfOk result (λ ending. ending_data T.shown ending ≡ of_call_fault expected fault.entry) }
 {
     let mut lines = Bytes::new(alloc);
     put_call_fault(fault, &mut lines)?;
@@ -86,7 +110,7 @@ pub(crate) fn end_for_fault<'b, T: Table<Global>>(
 /// The ending of a call whose collecting stopped.
 pub(crate) fn end_for_collecting<'b, T: Table<Global>>(fault: CollectFault) -> Ending<'b, T>
     requires { MayComeAtAll fault }
-    ensures { ending_data result ≡ of_collecting fault }
+    ensures { ending_data T.shown result ≡ of_collecting fault }
 {
     match fault {
         CollectFault::Full => Ending::Stopped(
@@ -102,10 +126,10 @@ pub(crate) fn end_for_collecting<'b, T: Table<Global>>(fault: CollectFault) -> E
 /// How a call ends after its files are collected.
 pub(crate) fn end_of<'b, T: Table<Global>>(
     alloc: Global,
-    work: Work<'_>,
+    work: Work<'b>,
     collected: &'b CollectedBook<T, Note>,
 ) -> Result<Ending<'b, T>, Memory>
-    ensures { IfOk result (λ ending. ending_data ending ≡ ends_with (work_data work.entry) collected.now.book.entries collected.now.refused) }
+    ensures { IfOk result (λ ending. ending_data T.shown ending ≡ ends_with (work_data work.entry) collected.now.book.entries collected.now.refused) }
 {
     let warnings = warnings(alloc, &work, collected)?;
     let failures = failures(alloc, &work, collected)?;
@@ -124,11 +148,48 @@ pub(crate) fn end_of<'b, T: Table<Global>>(
 /// Prepares what a call gives of the chosen source files of `store`.
 fn given_for<'b, T: Table<Global>>(
     alloc: Global,
-    work: Work<'_>,
+    work: Work<'b>,
     store: &'b T,
     warnings: Bytes,
 ) -> Result<Given<'b, T>, Memory>
-    ensures { IfOk result (λ given. given_data given ≡ given_of warnings (work_data work.entry) (T.shown store.now).sections) }
+    ensures { IfOk result (λ given. given_data T.shown given ≡ given_of warnings (work_data work.entry) (T.shown store.now).sections) }
+{
+    let pages = pages_of(alloc, &work, store)?;
+    let texts = texts_of(alloc, work, store)?;
+    Ok(Given {
+        warnings,
+        pages,
+        texts,
+    })
+}
+
+/// The pages of the chosen source files of `store`, if the call asks for some.
+fn pages_of<'b, T: Table<Global>>(
+    alloc: Global,
+    work: &Work<'b>,
+    store: &'b T,
+) -> Result<Option<Pages<'b, T>>, Memory>
+    ensures { IfOk result (λ pages. option_map (λ p. pages_data T.shown p) pages ≡ pages_asked (work_data work.now) (T.shown store.now).sections) }
+{
+    let Some(folder) = work.html else {
+        return Ok(None);
+    };
+    Ok(Some(Pages {
+        folder,
+        texts: work.texts,
+        choice: work.choice.copy(alloc)?,
+        strictness: work.strictness,
+        table: store,
+    }))
+}
+
+/// Prepares the texts about the chosen source files of `store`.
+fn texts_of<'b, T: Table<Global>>(
+    alloc: Global,
+    work: Work<'_>,
+    store: &'b T,
+) -> Result<Texts<'b, T>, Memory>
+    ensures { IfOk result (λ texts. texts_data texts ≡ (given_of [] (work_data work.entry) (T.shown store.now).sections).texts) }
 {
     let Work {
         choice,
@@ -142,8 +203,7 @@ fn given_for<'b, T: Table<Global>>(
     let merged = Printing::of_store(alloc, store, choice)?;
     let tracefile = ReadyText::of(alloc, merged)?;
     let overview = ReadyText::of(alloc, Printing::of_text(shown))?;
-    Ok(Given {
-        warnings,
+    Ok(Texts {
         tracefile,
         overview,
         missed,

@@ -3,9 +3,9 @@
 //! `combine` takes the names of the files from its words and its list (`file_names`), and makes `Work` of the options (`work`).
 //! covworkers collects the files in a book; a `Tracefile` reads a file when its turn comes, gives each chunk its new names (covpaths),
 //! and ends with a `Note` of what came of the file. An `Ending` is made of the book and the notes (`ending`), and is reported on the
-//! streams and in the output file (`report`). `messages` has all lines of the error stream.
+//! streams, in the output file, and in a folder of pages (`report`, covpages). `messages` has all lines of the error stream.
 //!
-//! No function names a store: all are generic over covreport's `Table`.
+//! No function names a store: all are generic over covreport's `Table`, or covhtml's `PointsTable`.
 //!
 //! A sketch, which no test runs: a call that merges files into `all.info`.
 //!
@@ -13,11 +13,11 @@
 //! fn combine_into<
 //!     R: Threads + Wait + Sync,
 //!     F: Folder<File: Send> + Sync,
-//!     P: OutputFolder,
+//!     P: FolderWriter,
 //!     I: Source,
 //!     O: Sink,
 //!     E: Sink,
-//!     T: Table<Global, Plan: Send, Renaming: Send> + Send,
+//!     T: PointsTable<Global, Plan: Send, Renaming: Send> + Send,
 //! >(
 //!     rt: &R,
 //!     folder: &F,
@@ -65,10 +65,11 @@ use crate::report::report;
 use crate::tracefile::tracefiles;
 use crate::work::{Work, work_of};
 use covcommand::{CombineOptions, Progress, Strictness};
+use covhtml::PointsTable;
 use covreport::Table;
 use covstream::{Sink, Source};
 use covworkers::{CollectFault, CollectedBook, IntoBookFault, NoGate, collect_into_book};
-use covworld::{Folder, OutputFolder, World};
+use covworld::{Folder, FolderWriter, World};
 use std::alloc::Global;
 use std::sync::Wait;
 use std::thread::Threads;
@@ -82,6 +83,7 @@ use std::thread::Threads;
 /// - 3 if memory ran out, the files have too many chunks, or the number of jobs isn't from 1 to 64;
 /// - 1, 4 or 5 for the worst of what came of the files: one can't be read (1); one is invalid, or checksums clash (4); one is no
 ///   tracefile, another number of files was read than is expected, or in a strict call something is doubtful (5);
+/// - 1 if the pages can't be written, or 5 if the call is strict and a source file can't be shown. Then nothing is written;
 /// - 1 if the file or the output can't be written;
 /// - 6 if rates are below their thresholds.
 ///
@@ -90,11 +92,11 @@ use std::thread::Threads;
 pub fn combine<
     R: Threads + Wait + Sync,
     F: Folder<File: Send> + Sync,
-    P: OutputFolder,
+    P: FolderWriter,
     I: Source,
     O: Sink,
     E: Sink,
-    T: Table<Global, Plan: Send, Renaming: Send> + Send,
+    T: PointsTable<Global, Plan: Send, Renaming: Send> + Send,
 >(
     rt: &R,
     folder: &F,
@@ -120,7 +122,7 @@ pub fn combine<
         ),
         Err(fault) => {
             let ending = early_end(alloc, options.expected, fault);
-            report::<P, I, O, E, T>(alloc, ending, file, world)
+            report::<F, P, I, O, E, T>(alloc, folder, ending, file, world)
         }
     }
 }
@@ -129,11 +131,11 @@ pub fn combine<
 fn combine_files<
     R: Threads + Wait + Sync,
     F: Folder<File: Send> + Sync,
-    P: OutputFolder,
+    P: FolderWriter,
     I: Source,
     O: Sink,
     E: Sink,
-    T: Table<Global, Plan: Send, Renaming: Send> + Send,
+    T: PointsTable<Global, Plan: Send, Renaming: Send> + Send,
 >(
     rt: &R,
     folder: &F,
@@ -147,7 +149,7 @@ fn combine_files<
     requires { CanReport world.old }
     ensures input { world.new.input ≡ world.old.input }
     ensures reported { (ending : EndingData) × MayEndWith (folder_data F.Folder F.File.Source folder.now) options.now (map string_bytes names.now) strictness (option_map (λ name. name.now) file.entry) ending
-        × IsReported (option_map (λ name. name.now) file.entry) ending result world.old world.new }
+        × IsReported (folder_data F.Folder F.File.Source folder.now) (option_map (λ name. name.now) file.entry) ending result world.old world.new }
 {
     match work_of(folder, alloc, options, names, strictness, file) {
         Ok(work) => {
@@ -156,7 +158,7 @@ fn combine_files<
         }
         Err(fault) => {
             let ending = early_end(alloc, options.expected, fault);
-            report::<P, I, O, E, T>(alloc, ending, file, world)
+            report::<F, P, I, O, E, T>(alloc, folder, ending, file, world)
         }
     }
 }
@@ -167,7 +169,7 @@ fn early_end<'b, T: Table<Global>>(
     expected: Option<u32>,
     fault: WorkFault<'_>,
 ) -> Ending<'b, T>
-    ensures { IsEarlyEnd expected fault.entry (ending_data result) }
+    ensures { IsEarlyEnd expected fault.entry (ending_data T.shown result) }
 {
     let WorkFault::Call(fault) = fault else {
         return no_memory();
@@ -182,11 +184,11 @@ fn early_end<'b, T: Table<Global>>(
 fn do_work<
     R: Threads + Wait + Sync,
     F: Folder<File: Send> + Sync,
-    P: OutputFolder,
+    P: FolderWriter,
     I: Source,
     O: Sink,
     E: Sink,
-    T: Table<Global, Plan: Send, Renaming: Send> + Send,
+    T: PointsTable<Global, Plan: Send, Renaming: Send> + Send,
 >(
     rt: &R,
     folder: &F,
@@ -199,7 +201,7 @@ fn do_work<
     requires { CanReport world.old }
     ensures input { world.new.input ≡ world.old.input }
     ensures reported { (ending : EndingData) × Ends (folder_data F.Folder F.File.Source folder.now) jobs (work_data work.entry) ending
-        × IsReported (option_map (λ name. name.now) file.entry) ending result world.old world.new }
+        × IsReported (folder_data F.Folder F.File.Source folder.now) (option_map (λ name. name.now) file.entry) ending result world.old world.new }
 {
     let shows = shows_progress(work.progress);
     if shows {
@@ -211,10 +213,16 @@ fn do_work<
     }
     match collected {
         Ok(collected) => match end_of::<T>(alloc, work, &collected) {
-            Ok(ending) => report(alloc, ending, file, world),
-            Err(_) => report::<P, I, O, E, T>(alloc, no_memory(), file, world),
+            Ok(ending) => report(alloc, folder, ending, file, world),
+            Err(_) => report::<F, P, I, O, E, T>(alloc, folder, no_memory(), file, world),
         },
-        Err(fault) => report::<P, I, O, E, T>(alloc, end_for_collecting(fault), file, world),
+        Err(fault) => report::<F, P, I, O, E, T>(
+            alloc,
+            folder,
+            end_for_collecting(fault),
+            file,
+            world,
+        ),
     }
 }
 
@@ -230,7 +238,7 @@ fn shows_progress(progress: Progress) -> bool {
 fn collect_files<
     R: Threads + Wait + Sync,
     F: Folder<File: Send> + Sync,
-    T: Table<Global, Plan: Send, Renaming: Send> + Send,
+    T: PointsTable<Global, Plan: Send, Renaming: Send> + Send,
 >(
     rt: &R,
     folder: &F,

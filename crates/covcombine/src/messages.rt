@@ -1,14 +1,15 @@
 //! The lines on standard error. Each function appends whole lines, or a part of one.
 
-ghost use Rattle.std.specs.Prelude.{◌≡◌, ◌++◌, None, Some, OnOk, codes, decimal};
+ghost use Rattle.std.specs.Prelude.{◌≡◌, ◌++◌, OnOk, codes, decimal, option_map};
 ghost use Rattle.covlist.specs.Shown.{shown_name};
-ghost use Rattle.covcombine.specs.Messages.{begins_words, call_fault_line, clash_line, counted, cut_line, error_line, expected_line, fault_line, line_fault_words as words_of_line_fault, misfit_words as words_of_misfits, misfits_line, no_record_line, no_record_words, none_left_line, option_name, packed_words, quoted, quoted_byte, rule_fault_words as words_of_rule_fault, strange_words, told, told_at, unmatched_line, unreadable_line, unused_line, unwritten_line};
+ghost use Rattle.covcombine.specs.Messages.{begins_words, but_written, call_fault_line, clash_line, counted, cut_line, error_line, expected_line, fault_line, line_fault_words as words_of_line_fault, misfit_words as words_of_misfits, misfits_line, no_record_line, no_record_words, none_left_line, option_name, packed_words, pages_lines, quoted, quoted_byte, rule_fault_words as words_of_rule_fault, strange_words, told, told_at, unmatched_line, unreadable_line, unused_line, unwritten_line};
 
 use crate::call_fault::{CallFault, CallOption};
 use crate::stranger::Stranger;
 use covcommand::Strictness;
 use covdata::{Bytes, LineFault, Memory, ReadFault};
 use covlist::put_shown_name;
+use covpages::PagesFault;
 use covpaths::RuleFault;
 
 /// Appends a number and a space, and then `one` if the number is 1, otherwise `many`.
@@ -310,27 +311,74 @@ pub(crate) fn put_expected(expected: u64, read: u64, lines: &mut Bytes) -> Resul
     lines.append(b"\n")
 }
 
-/// Appends the line about the file called `name`, which can't be written.
-pub(crate) fn put_unwritten(name: &[u8], lines: &mut Bytes) -> Result<(), Memory>
-    ensures { OnOk result (lines.new ≡ lines.old ++ unwritten_line name.now) }
+/// Appends the line about the file called `name`, which can't be written. `pages` is the folder that was written before.
+pub(crate) fn put_unwritten(
+    name: &[u8],
+    pages: Option<&str>,
+    lines: &mut Bytes,
+) -> Result<(), Memory>
+    ensures { OnOk result (lines.new ≡ lines.old ++ unwritten_line name.now (option_map (λ name. name.now) pages.entry)) }
 {
-    put_told(name, b"can't be written", lines)
+    put_name(name, lines)?;
+    lines.append(b"can't be written")?;
+    put_but_written(None, pages, lines)?;
+    lines.append(b"\n")
 }
 
-/// The line about standard output that can't be written, if no file is written.
-pub(crate) fn cut() -> &'static [u8]
-    ensures { result.now ≡ cut_line None }
+/// Appends the line about standard output, which can't be written. `file` and `pages` were written before.
+pub(crate) fn put_cut(
+    file: Option<&str>,
+    pages: Option<&str>,
+    lines: &mut Bytes,
+) -> Result<(), Memory>
+    ensures { OnOk result (lines.new ≡ lines.old ++ cut_line (option_map (λ name. name.now) file.entry) (option_map (λ name. name.now) pages.entry)) }
 {
-    b"standard output can't be written\n"
+    lines.append(b"standard output can't be written")?;
+    put_but_written(file, pages, lines)?;
+    lines.append(b"\n")
 }
 
-/// Appends the line about standard output that can't be written after the file called `name`.
-pub(crate) fn put_cut(name: &[u8], lines: &mut Bytes) -> Result<(), Memory>
-    ensures { OnOk result (lines.new ≡ lines.old ++ cut_line (Some name.now)) }
+/// Appends what was written before: a file, a folder of pages, or both.
+fn put_but_written(file: Option<&str>, pages: Option<&str>, lines: &mut Bytes) -> Result<(), Memory>
+    ensures { OnOk result (lines.new ≡ lines.old ++ but_written (option_map (λ name. name.now) file.entry) (option_map (λ name. name.now) pages.entry)) }
 {
-    lines.append(b"standard output can't be written, but ")?;
+    match (file, pages) {
+        (None, None) => Ok(()),
+        (Some(name), None) => put_but(name.as_bytes(), lines),
+        (None, Some(folder)) => put_but(folder.as_bytes(), lines),
+        (Some(name), Some(folder)) => {
+            lines.append(b", but ")?;
+            put_shown_name(name.as_bytes(), lines)?;
+            lines.append(b" and ")?;
+            put_shown_name(folder.as_bytes(), lines)?;
+            lines.append(b" are")
+        }
+    }
+}
+
+/// Appends that what is called `name` was written before.
+fn put_but(name: &[u8], lines: &mut Bytes) -> Result<(), Memory>
+    ensures { OnOk result (lines.new ≡ lines.old ++ (codes ", but " ++ (shown_name name.now ++ codes " is"))) }
+{
+    lines.append(b", but ")?;
     put_shown_name(name, lines)?;
-    lines.append(b" is\n")
+    lines.append(b" is")
+}
+
+/// Appends why pages can't be written into the folder called `name`. If memory ran out, that is an error.
+pub(crate) fn put_pages_fault(
+    name: &[u8],
+    fault: PagesFault,
+    lines: &mut Bytes,
+) -> Result<(), Memory>
+    ensures told { OnOk result (lines.new ≡ pages_lines lines.old name.now fault) }
+{
+    match fault {
+        PagesFault::Foreign => put_told(name, b"has files that html didn't write", lines),
+        PagesFault::Unwritten => put_unwritten(name, None, lines),
+        PagesFault::Refused(told) => lines.append(told.get()),
+        PagesFault::Memory => Err(Memory),
+    }
 }
 
 /// Appends the line about a wrong call.
@@ -350,6 +398,8 @@ pub(crate) fn put_call_fault(fault: CallFault<'_>, lines: &mut Bytes) -> Result<
             b": needs -o FILE, since standard output has the tracefile",
             lines,
         ),
+        CallFault::NoPages(option) => put_error(option, b": needs --html DIR", lines),
+        CallFault::BadSource(word) => put_bad_source(word.as_bytes(), lines),
         CallFault::NoName => {
             lines.append(b"error: no file is named: did a pattern match nothing?\n")
         }
@@ -391,6 +441,15 @@ fn put_bad_path(fault: RuleFault, word: &[u8], lines: &mut Bytes) -> Result<(), 
     put_shown_name(word, lines)?;
     lines.append(rule_fault_words(fault))?;
     lines.append(b"\n")
+}
+
+/// Appends the line about the `word` of `--source`, which is no rule.
+fn put_bad_source(word: &[u8], lines: &mut Bytes) -> Result<(), Memory>
+    ensures { OnOk result (lines.new ≡ lines.old ++ error_line (codes "--source " ++ (shown_name word.now ++ codes ": OLD=NEW was expected"))) }
+{
+    lines.append(b"error: --source ")?;
+    put_shown_name(word, lines)?;
+    lines.append(b": OLD=NEW was expected\n")
 }
 
 /// Appends the line about a name that no test can have.

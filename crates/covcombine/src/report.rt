@@ -1,125 +1,207 @@
 //! Reports how a call ended.
 
-ghost use Rattle.std.specs.Prelude.{◌≡◌, ◌<◌, ◌⊎◌, ◌^◌, ◌++◌, [], None, Some, option_map};
+ghost use Rattle.std.specs.Prelude.{◌≡◌, ◌<◌, ◌⊎◌, ◌^◌, ◌++◌, [], option_map};
+ghost use Rattle.covpages.specs.declared.fault.PagesFault.{PagesFault as PagesFaultData};
+ghost use Rattle.covpages.specs.declared.fault.PagesFault.TheVariants as pages_faults;
 ghost use Rattle.covsession.specs.Program.{words_of_fault};
 ghost use Rattle.covsession.specs.Session.{said as said_line};
 ghost use Rattle.covsession.specs.declared.session.fault.SessionFault.TheVariants as session_faults;
+ghost use Rattle.covworld.specs.Folder.{folder_data};
 ghost use Rattle.covworld.specs.Streams.{CanWrite, Complains, Withholds};
 ghost use Rattle.covcombine.specs.Combine.{EndingData, Gives};
-ghost use Rattle.covcombine.specs.Combined.{IsPrinted, IsReported, given_status as status_for, out_of_memory};
-ghost use Rattle.covcombine.specs.Messages.{cut_line};
-ghost use Rattle.covcombine.specs.Steps.{CanReport};
-ghost use Rattle.covcombine.specs.View.{ending_data, given_data};
+ghost use Rattle.covcombine.specs.Combined.{AreGivenIfRoom, HasNoPages, HasPages, IsPrinted, IsReported, given_status as status_for, out_of_memory};
+ghost use Rattle.covcombine.specs.Steps.{CanReport, IsPagesFaultTold};
+ghost use Rattle.covcombine.specs.View.{ending_data, given_data, pages_data, texts_data};
 
-use crate::ending::{Ending, Given};
-use crate::messages::{cut, put_cut, put_unwritten};
+use crate::ending::{Ending, Given, Pages, Texts};
+use crate::messages::{put_cut, put_pages_fault, put_unwritten};
 use covdata::{Bytes, Memory};
+use covhtml::PointsTable;
+use covpages::{PagesFault, PagesWork, write_pages};
 use covreport::Table;
 use covsession::{SessionFault, line_of};
 use covstream::{Sink, Source};
-use covworld::{OutputFault, OutputFolder, ReadyText, Sinks, World, write_file};
+use covworld::{
+    Folder, FolderWriter, OutputFault, OutputFolder, ReadyText, Sinks, World, write_file,
+};
 use std::alloc::Global;
 
-/// Reports how a call ended, and returns the exit status. The tracefile goes to the output, or into the file that `file` names: then
-/// the output gets the overview, after the file is finished. The error stream gets its lines last.
-pub(crate) fn report<P: OutputFolder, I: Source, O: Sink, E: Sink, T: Table<Global>>(
+/// Reports how a call ended, and returns the exit status. The pages come first, if the call asks for some: if they can't be written,
+/// nothing else is. The tracefile goes to the output, or into the file that `file` names: then the output gets the overview, after the
+/// file is finished. The error stream gets its lines last. `sources` has the source files.
+pub(crate) fn report<
+    F: Folder,
+    P: FolderWriter,
+    I: Source,
+    O: Sink,
+    E: Sink,
+    T: PointsTable<Global>,
+>(
     alloc: Global,
+    sources: &F,
     ending: Ending<'_, T>,
     file: Option<&str>,
     world: &mut World<P, I, O, E>,
 ) -> u8
     requires { CanReport world.old }
     ensures input { world.new.input ≡ world.old.input }
-    ensures reported { (told : EndingData) × ((told ≡ out_of_memory) ⊎ (told ≡ ending_data ending.entry))
-        × IsReported (option_map (λ name. name.now) file.entry) told result world.old world.new }
+    ensures reported { (told : EndingData) × ((told ≡ out_of_memory) ⊎ (told ≡ ending_data T.shown ending.entry))
+        × IsReported (folder_data F.Folder F.File.Source sources.now) (option_map (λ name. name.now) file.entry) told result world.old world.new }
 {
     match ending {
         Ending::Stopped(line) => say(line, 3, &mut world.sinks),
         Ending::Fails { status, lines } => say(lines.get(), status, &mut world.sinks),
-        Ending::Gives(given) => match file {
-            None => print_tracefile(given, &mut world.sinks),
-            Some(name) => write_tracefile(alloc, name, given, world),
-        },
+        Ending::Gives(given) => give(alloc, sources, given, file, world),
     }
 }
 
-/// Prints the tracefile. Returns the exit status.
-fn print_tracefile<O: Sink, E: Sink, T: Table<Global>>(
-    given: Given<'_, T>,
-    sinks: &mut Sinks<O, E>,
-) -> u8
-    requires { CanWrite sinks.old }
-    ensures { IsPrinted (cut_line None) (given_data given.entry).tracefile (given_data given.entry).warnings (given_data given.entry).missed result sinks.old sinks.new }
-{
-    let Given {
-        warnings,
-        tracefile,
-        missed,
-        ..
-    } = given;
-    print(tracefile, warnings.get(), missed.get(), cut(), sinks)
-}
-
-/// Writes the tracefile into the file called `name`, and prints the overview. Returns the exit status.
-fn write_tracefile<P: OutputFolder, I: Source, O: Sink, E: Sink, T: Table<Global>>(
+/// Writes the pages, if the call asks for some, and gives the texts. Returns the exit status.
+fn give<F: Folder, P: FolderWriter, I: Source, O: Sink, E: Sink, T: PointsTable<Global>>(
     alloc: Global,
-    name: &str,
+    sources: &F,
     given: Given<'_, T>,
+    file: Option<&str>,
     world: &mut World<P, I, O, E>,
 ) -> u8
     requires { CanReport world.old }
     ensures input { world.new.input ≡ world.old.input }
-    ensures reported { (told : EndingData) × ((told ≡ out_of_memory) ⊎ (told ≡ Gives (given_data given.entry)))
-        × IsReported (Some name.now) told result world.old world.new }
+    ensures reported { (told : EndingData) × ((told ≡ out_of_memory) ⊎ (told ≡ Gives (given_data T.shown given.entry)))
+        × IsReported (folder_data F.Folder F.File.Source sources.now) (option_map (λ name. name.now) file.entry) told result world.old world.new }
 {
-    let Ok(lines) = FileLines::of(alloc, name) else {
-        return report_no_memory(&mut world.sinks);
-    };
     let Given {
         warnings,
+        pages,
+        texts,
+    } = given;
+    match pages {
+        None => give_texts(alloc, texts, warnings.get(), file, None, world),
+        Some(pages) => give_with_pages(alloc, sources, &pages, texts, warnings, file, world),
+    }
+}
+
+/// Writes the pages, and then gives the texts. Returns the exit status.
+fn give_with_pages<F: Folder, P: FolderWriter, I: Source, O: Sink, E: Sink, T: PointsTable<Global>>(
+    alloc: Global,
+    sources: &F,
+    pages: &Pages<'_, T>,
+    texts: Texts<'_, T>,
+    warnings: Bytes,
+    file: Option<&str>,
+    world: &mut World<P, I, O, E>,
+) -> u8
+    requires { CanReport world.old }
+    ensures input { world.new.input ≡ world.old.input }
+    ensures given { HasNoPages (folder_data F.Folder F.File.Source sources.now) (pages_data T.shown pages.now) warnings result world.old world.new
+        ⊎ HasPages (folder_data F.Folder F.File.Source sources.now) (option_map (λ name. name.now) file.entry) (pages_data T.shown pages.now) (texts_data texts.entry) warnings result world.old world.new }
+{
+    let work = PagesWork {
+        alloc,
+        folder: pages.folder,
+        texts: pages.texts,
+        choice: &pages.choice,
+        strictness: pages.strictness,
+        sources,
+        table: pages.table,
+    };
+    match write_pages(&work, &mut world.files) {
+        Ok(more) => {
+            let mut warnings = warnings;
+            match warnings.append(more.get()) {
+                Ok(()) => give_texts(
+                    alloc,
+                    texts,
+                    warnings.get(),
+                    file,
+                    Some(pages.folder),
+                    world,
+                ),
+                Err(_) => report_no_memory(&mut world.sinks),
+            }
+        }
+        Err(fault) => report_pages_fault(pages.folder, fault, warnings, &mut world.sinks),
+    }
+}
+
+/// Reports after `warnings` why pages weren't written into the folder called `name`. Returns the exit status.
+fn report_pages_fault<O: Sink, E: Sink>(
+    name: &str,
+    fault: PagesFault,
+    warnings: Bytes,
+    sinks: &mut Sinks<O, E>,
+) -> u8
+    requires { sinks.old.failed_faults < 2 ^ 62 }
+    ensures { (told : PagesFaultData) × ((told ≡ fault) ⊎ (told ≡ pages_faults.Memory)) × IsPagesFaultTold warnings name.now told result sinks.old sinks.new }
+{
+    let status = fault.status();
+    let mut lines = warnings;
+    match put_pages_fault(name.as_bytes(), fault, &mut lines) {
+        Ok(()) => say(lines.get(), status, sinks),
+        Err(_) => report_no_memory(sinks),
+    }
+}
+
+/// Gives the texts of a call: prints the tracefile, or writes it into the file that `file` names and prints the overview. Returns the
+/// exit status. `pages` is the name of the folder that was written before.
+fn give_texts<P: OutputFolder, I: Source, O: Sink, E: Sink, T: Table<Global>>(
+    alloc: Global,
+    texts: Texts<'_, T>,
+    warnings: &[u8],
+    file: Option<&str>,
+    pages: Option<&str>,
+    world: &mut World<P, I, O, E>,
+) -> u8
+    requires { CanReport world.old }
+    ensures input { world.new.input ≡ world.old.input }
+    ensures given { AreGivenIfRoom (option_map (λ name. name.now) file.entry) (option_map (λ name. name.now) pages.entry) (texts_data texts.entry) warnings.now result world.old world.new }
+{
+    let Ok(lines) = FailureLines::of(alloc, file, pages) else {
+        return report_no_memory(&mut world.sinks);
+    };
+    let Texts {
         tracefile,
         overview,
         missed,
-    } = given;
+    } = texts;
+    let cut = lines.cut.get();
+    let Some(name) = file else {
+        return print(tracefile, warnings, missed.get(), cut, &mut world.sinks);
+    };
     match write_file(name, tracefile, &mut world.files) {
-        Ok(()) => print(
-            overview,
-            warnings.get(),
-            missed.get(),
-            lines.cut.get(),
-            &mut world.sinks,
-        ),
+        Ok(()) => print(overview, warnings, missed.get(), cut, &mut world.sinks),
         Err(OutputFault::Failed) => {
-            world.sinks.say(warnings.get(), lines.unwritten.get());
+            world.sinks.say(warnings, lines.unwritten.get());
             1
         }
         Err(OutputFault::Memory) => report_no_memory(&mut world.sinks),
     }
 }
 
-/// The lines about failures around a file, which are allocated before it is written.
+/// The lines about failures to write, which are allocated before the texts are given.
 #[derive(Drop)]
-struct FileLines {
-    /// The file can't be written.
+struct FailureLines {
+    /// The file can't be written. Empty if no file is named.
     unwritten: Bytes,
-    /// The file is written, but the output can't be.
+    /// The output can't be written.
     cut: Bytes,
 }
 
-impl FileLines {
-    ghost use Rattle.std.specs.Prelude.{◌≡◌, Some, IfOk};
+impl FailureLines {
+    ghost use Rattle.std.specs.Prelude.{◌≡◌, ℕ, List, Some, option_map, IfOk};
     ghost use Rattle.covcombine.specs.Messages.{cut_line, unwritten_line};
 
-    /// The lines about the file called `name`.
-    fn of(alloc: Global, name: &str) -> Result<FileLines, Memory>
-        ensures unwritten { IfOk result (λ lines. lines.unwritten ≡ unwritten_line name.now) }
-        ensures cut { IfOk result (λ lines. lines.cut ≡ cut_line (Some name.now)) }
+    /// The lines for the file called `file`, after the folder called `pages` was written.
+    fn of(alloc: Global, file: Option<&str>, pages: Option<&str>) -> Result<FailureLines, Memory>
+        ensures unwritten { IfOk result (λ lines. (name : List ℕ) → option_map (λ name. name.now) file.entry ≡ Some name
+            → lines.unwritten ≡ unwritten_line name (option_map (λ name. name.now) pages.entry)) }
+        ensures cut { IfOk result (λ lines. lines.cut ≡ cut_line (option_map (λ name. name.now) file.entry) (option_map (λ name. name.now) pages.entry)) }
     {
         let mut unwritten = Bytes::new(alloc);
-        put_unwritten(name.as_bytes(), &mut unwritten)?;
+        if let Some(name) = file {
+            put_unwritten(name.as_bytes(), pages, &mut unwritten)?;
+        }
         let mut cut = Bytes::new(alloc);
-        put_cut(name.as_bytes(), &mut cut)?;
-        Ok(FileLines { unwritten, cut })
+        put_cut(file, pages, &mut cut)?;
+        Ok(FailureLines { unwritten, cut })
     }
 }
 

@@ -4,22 +4,25 @@ ghost use Rattle.std.specs.Prelude.{◌≡◌, List, Option, Some, map, option_m
 ghost use Rattle.std.specs.String.{string_bytes};
 ghost use Rattle.covlimit.specs.LimitsView.{limits_data};
 ghost use Rattle.covlimit.specs.Rates.{IsRate};
+ghost use Rattle.covpages.specs.Sources.{AreRules};
 ghost use Rattle.covpaths.specs.Names.{AreGoodNames, IsGoodTestIfAny};
 ghost use Rattle.covpaths.specs.Paths.{IsGoodRule, rule_of as rule_of_word};
 ghost use Rattle.covreport.specs.ChoiceView.{choice_data};
 ghost use Rattle.covcombine.specs.declared.call_fault.CallOption.{CallOption as AnOption};
 ghost use Rattle.covcombine.specs.Options.{AreRulesOf, IsWorkOf, choice_by, limits_of as limits_with, limit_in, patterns_in};
-ghost use Rattle.covcombine.specs.Steps.{AreNames, ArePatterns, HasRoom, IsNameFault, IsNewNameFault, IsPatternFault, IsOneFileFault, IsOneFileIfAny, IsRateFault, IsRoomFault, IsTestFault, IsTwiceIfAny, IsWordFault, IsWorkFault, of_pattern};
+ghost use Rattle.covcombine.specs.Steps.{AreNames, ArePatterns, HasFolder, HasRoom, IsFolderFault, IsNameFault, IsNewNameFault, IsOptionIfAny, IsPatternFault, IsOneFileFault, IsOneFileIfAny, IsRateFault, IsRoomFault, IsSourceFault, IsTestFault, IsTwiceIfAny, IsWordFault, IsWorkFault, of_pattern};
 ghost use Rattle.covcombine.specs.FileNames.{AreApart};
 ghost use Rattle.covcombine.specs.View.{work_data};
 ghost use Rattle.covworld.specs.Folder.{folder_data};
 
 use crate::call_fault::{CallFault, CallOption, WorkFault};
 use covcommand::{
-    CombineOptions, Limits as LimitWords, Overview, Progress, SourceFilter, Strictness, TotalsForm,
+    CombineOptions, Limits as LimitWords, Overview, PageTexts, Progress, SourceFilter, Strictness,
+    TotalsForm,
 };
 use covdata::{Bytes, Memory, good_test};
 use covlimit::{Limits, Rate};
+use covpages::is_source_rule;
 use covpaths::{NewNames, PathRule};
 use covreport::{Choice, PatternFault, Patterns};
 use covworld::{FileId, Folder};
@@ -41,6 +44,10 @@ pub(crate) struct Work<'a> {
     pub(crate) overview: Overview,
     /// How the overview's totals are printed.
     pub(crate) form: TotalsForm,
+    /// The folder for pages, if the call asks for some.
+    pub(crate) html: Option<&'a str>,
+    /// The texts of the pages.
+    pub(crate) texts: &'a PageTexts,
     /// The thresholds.
     pub(crate) limits: Limits,
     /// How many files have to be read.
@@ -50,8 +57,8 @@ pub(crate) struct Work<'a> {
 }
 
 /// Makes the work of `options` over the files called `names`. `file` is the name of the output file, if the command line has one.
-/// Checks the patterns first, then the name of the test, the paths, the thresholds, whether an overview can be shown, and the names
-/// of the files.
+/// Checks the patterns first, then the name of the test, the paths, the thresholds, whether an overview can be shown, the options of
+/// pages, and the names of the files.
 pub(crate) fn work_of<'a, F: Folder>(
     folder: &F,
     alloc: Global,
@@ -67,6 +74,8 @@ pub(crate) fn work_of<'a, F: Folder>(
     let new_names = new_names_of(alloc, options)?;
     let limits = limits_of(alloc, &options.limits)?;
     check_overview(options, file)?;
+    check_pages(options)?;
+    check_sources(options.texts.sources.get())?;
     check_names(alloc, names)?;
     check_files(folder, alloc, names)?;
     Ok(Work {
@@ -76,6 +85,8 @@ pub(crate) fn work_of<'a, F: Folder>(
         choice,
         overview: options.overview,
         form: options.form,
+        html: folder_of(options),
+        texts: &options.texts,
         limits,
         expected: options.expected,
         progress: options.progress,
@@ -219,6 +230,57 @@ fn check_overview<'a>(options: &CombineOptions, file: Option<&str>) -> Result<()
             Err(WorkFault::Call(CallFault::NoRoom(CallOption::Json)))
         }
     }
+}
+
+/// The name of the folder for pages, if the call asks for some.
+fn folder_of(options: &CombineOptions) -> Option<&str>
+    ensures { option_map (λ name. name.now) result ≡ option_map string_bytes options.now.html }
+{
+    match &options.html {
+        Some(folder) => Some(folder.as_str()),
+        None => None,
+    }
+}
+
+/// Checks that a folder for pages is named if an option says what they show.
+fn check_pages<'a>(options: &CombineOptions) -> Result<(), WorkFault<'a>>
+    ensures folder { IfOk result (λ _. HasFolder options.now) }
+    ensures fault { IfErr result (IsFolderFault options.now) }
+{
+    match (&options.html, pages_option(&options.texts)) {
+        (Some(_), _) => Ok(()),
+        (None, None) => Ok(()),
+        (None, Some(option)) => Err(WorkFault::Call(CallFault::NoPages(option))),
+    }
+}
+
+/// An option that says what pages show, if one is given.
+fn pages_option(texts: &PageTexts) -> Option<CallOption>
+    ensures { IsOptionIfAny texts.now result }
+{
+    if texts.title.is_some() {
+        Some(CallOption::Title)
+    } else if texts.date.is_some() {
+        Some(CallOption::Date)
+    } else if !texts.sources.get().is_empty() {
+        Some(CallOption::Source)
+    } else {
+        None
+    }
+}
+
+/// Checks that each of the `words` of `--source` is a rule.
+fn check_sources<'a>(words: &'a [String]) -> Result<(), WorkFault<'a>>
+    ensures rules { IfOk result (λ _. AreRules (map string_bytes words.now)) }
+    ensures fault { IfErr result (IsSourceFault (map string_bytes words.now)) }
+{
+    for word in words {
+        let name = word.as_str();
+        if !is_source_rule(name) {
+            return Err(WorkFault::Call(CallFault::BadSource(name)));
+        }
+    }
+    Ok(())
 }
 
 /// Checks that there is a name, and that no name stands twice.

@@ -577,14 +577,14 @@ version_of_one_refused = refl
 
 -- ---- `combine`
 
-pub combine_some_asked : (output : Option (String Global)) → Some (codes "out") ≡ option_map string_bytes output → (list : String Global) → codes "-" ≡ string_bytes list
-    → AsksForAll (subcommand_of covcollect (codes "covcollect" ∷ codes "combine" ∷ codes "-o" ∷ codes "out" ∷ codes "-j" ∷ codes "3" ∷ codes "--expect" ∷ codes "2" ∷ codes "--path" ∷ codes "a=b" ∷ codes "--one-test=" ∷ codes "--files-from" ∷ codes "-" ∷ codes "-0" ∷ codes "--strict" ∷ codes "--list" ∷ codes "-q" ∷ codes "f" ∷ codes "g" ∷ []))
-    (record { command = Combine (record { jobs = Some 3; expected = Some 2; list = Some list; names_end = ends.Null; paths = codes "a=b" ∷ []; test = Some []; progress = progresses.Quiet; filter = record { includes = []; excludes = [] }; overview = overviews.List; form = Words; limits = record { lines = None; functions = None; branches = None }; names = codes "f" ∷ codes "g" ∷ [] }); strictness = Strict; size = Large; output = output })
+pub combine_some_asked : (output : Option (String Global)) → Some (codes "out") ≡ option_map string_bytes output → (list : String Global) → codes "-" ≡ string_bytes list → (html : String Global) → codes "dir" ≡ string_bytes html
+    → AsksForAll (subcommand_of covcollect (codes "covcollect" ∷ codes "combine" ∷ codes "-o" ∷ codes "out" ∷ codes "-j" ∷ codes "3" ∷ codes "--expect" ∷ codes "2" ∷ codes "--path" ∷ codes "a=b" ∷ codes "--one-test=" ∷ codes "--files-from" ∷ codes "-" ∷ codes "-0" ∷ codes "--strict" ∷ codes "--list" ∷ codes "-q" ∷ codes "--html" ∷ codes "dir" ∷ codes "--title" ∷ codes "t" ∷ codes "--source" ∷ codes "a=b" ∷ codes "--source" ∷ codes "c=d" ∷ codes "f" ∷ codes "g" ∷ []))
+    (record { command = Combine (record { jobs = Some 3; expected = Some 2; list = Some list; names_end = ends.Null; paths = codes "a=b" ∷ []; test = Some []; progress = progresses.Quiet; filter = record { includes = []; excludes = [] }; overview = overviews.List; form = Words; html = Some html; texts = record { title = Some (codes "t"); date = None; sources = codes "a=b" ∷ codes "c=d" ∷ [] }; limits = record { lines = None; functions = None; branches = None }; names = codes "f" ∷ codes "g" ∷ [] }); strictness = Strict; size = Large; output = output })
 unfolding clap_on_literals
-combine_some_asked output is list is_list = (
+combine_some_asked output is list is_list html is_html = (
   (
-    rows_for (codes "covcollect" ∷ codes "combine" ∷ codes "-o" ∷ codes "out" ∷ codes "-j" ∷ codes "3" ∷ codes "--expect" ∷ codes "2" ∷ codes "--path" ∷ codes "a=b" ∷ codes "--one-test=" ∷ codes "--files-from" ∷ codes "-" ∷ codes "-0" ∷ codes "--strict" ∷ codes "--list" ∷ codes "-q" ∷ codes "f" ∷ codes "g" ∷ []),
-    named (codes "combine") (subcommand_of covcollect (codes "covcollect" ∷ codes "combine" ∷ codes "-o" ∷ codes "out" ∷ codes "-j" ∷ codes "3" ∷ codes "--expect" ∷ codes "2" ∷ codes "--path" ∷ codes "a=b" ∷ codes "--one-test=" ∷ codes "--files-from" ∷ codes "-" ∷ codes "-0" ∷ codes "--strict" ∷ codes "--list" ∷ codes "-q" ∷ codes "f" ∷ codes "g" ∷ [])) refl,
+    rows_for (codes "covcollect" ∷ codes "combine" ∷ codes "-o" ∷ codes "out" ∷ codes "-j" ∷ codes "3" ∷ codes "--expect" ∷ codes "2" ∷ codes "--path" ∷ codes "a=b" ∷ codes "--one-test=" ∷ codes "--files-from" ∷ codes "-" ∷ codes "-0" ∷ codes "--strict" ∷ codes "--list" ∷ codes "-q" ∷ codes "--html" ∷ codes "dir" ∷ codes "--title" ∷ codes "t" ∷ codes "--source" ∷ codes "a=b" ∷ codes "--source" ∷ codes "c=d" ∷ codes "f" ∷ codes "g" ∷ []),
+    named (codes "combine") (subcommand_of covcollect (codes "covcollect" ∷ codes "combine" ∷ codes "-o" ∷ codes "out" ∷ codes "-j" ∷ codes "3" ∷ codes "--expect" ∷ codes "2" ∷ codes "--path" ∷ codes "a=b" ∷ codes "--one-test=" ∷ codes "--files-from" ∷ codes "-" ∷ codes "-0" ∷ codes "--strict" ∷ codes "--list" ∷ codes "-q" ∷ codes "--html" ∷ codes "dir" ∷ codes "--title" ∷ codes "t" ∷ codes "--source" ∷ codes "a=b" ∷ codes "--source" ∷ codes "c=d" ∷ codes "f" ∷ codes "g" ∷ [])) refl,
     record {
       jobs = (codes "3", refl, refl);
       expected = (codes "2", refl, refl);
@@ -596,6 +596,8 @@ combine_some_asked output is list is_list = (
       filter = (refl, refl);
       overview = refl;
       form = refl;
+      html = ap (λ t. Some t) is_html;
+      texts = record { title = refl; date = refl; sources = refl };
       limits = (refl, refl, refl);
       names = refl;
     },
@@ -606,13 +608,13 @@ combine_some_asked output is list is_list = (
 )
 
 pub combine_few_asked : AsksForAll (subcommand_of covcollect (codes "covcollect" ∷ codes "combine" ∷ codes "--json" ∷ codes "--exclude" ∷ codes "x" ∷ codes "--fail-under-lines" ∷ codes "80" ∷ []))
-    (record { command = Combine (record { jobs = None; expected = None; list = None; names_end = ends.LineFeed; paths = []; test = None; progress = progresses.Shown; filter = record { includes = []; excludes = codes "x" ∷ [] }; overview = overviews.Summary; form = Json; limits = record { lines = Some (codes "80"); functions = None; branches = None }; names = [] }); strictness = Lenient; size = Large; output = None })
+    (record { command = Combine (record { jobs = None; expected = None; list = None; names_end = ends.LineFeed; paths = []; test = None; progress = progresses.Shown; filter = record { includes = []; excludes = codes "x" ∷ [] }; overview = overviews.Summary; form = Json; html = None; texts = record { title = None; date = None; sources = [] }; limits = record { lines = Some (codes "80"); functions = None; branches = None }; names = [] }); strictness = Lenient; size = Large; output = None })
 unfolding clap_on_literals
 combine_few_asked = (
   (
     rows_for (codes "covcollect" ∷ codes "combine" ∷ codes "--json" ∷ codes "--exclude" ∷ codes "x" ∷ codes "--fail-under-lines" ∷ codes "80" ∷ []),
     named (codes "combine") (subcommand_of covcollect (codes "covcollect" ∷ codes "combine" ∷ codes "--json" ∷ codes "--exclude" ∷ codes "x" ∷ codes "--fail-under-lines" ∷ codes "80" ∷ [])) refl,
-    record { jobs = refl; expected = refl; list = refl; names_end = refl; paths = refl; test = refl; progress = refl; filter = (refl, refl); overview = refl; form = refl; limits = (refl, refl, refl); names = refl },
+    record { jobs = refl; expected = refl; list = refl; names_end = refl; paths = refl; test = refl; progress = refl; filter = (refl, refl); overview = refl; form = refl; html = refl; texts = record { title = refl; date = refl; sources = refl }; limits = (refl, refl, refl); names = refl },
   ),
   refl,
   refl,
@@ -659,7 +661,7 @@ merge_path_refused = refl
 
 pub html_few_asked : (folder : String Global) → codes "out" ≡ string_bytes folder
     → AsksForAll (subcommand_of covcollect (codes "covcollect" ∷ codes "html" ∷ codes "f" ∷ codes "-o" ∷ codes "out" ∷ []))
-    (record { command = Html One 1 (record { includes = []; excludes = [] }) (record { folder = folder; title = None; date = None; sources = [] }) (codes "f" ∷ []); strictness = Lenient; size = Limited; output = None })
+    (record { command = Html One 1 (record { includes = []; excludes = [] }) (record { folder = folder; texts = record { title = None; date = None; sources = [] } }) (codes "f" ∷ []); strictness = Lenient; size = Limited; output = None })
 unfolding clap_on_literals
 html_few_asked folder is = (
   (
@@ -668,7 +670,7 @@ html_few_asked folder is = (
     refl,
     (codes "1", refl, refl),
     (refl, refl),
-    record { folder = ap (λ t. Some t) is; title = refl; date = refl; sources = refl },
+    record { folder = ap (λ t. Some t) is; texts = record { title = refl; date = refl; sources = refl } },
     refl,
   ),
   refl,
@@ -678,7 +680,7 @@ html_few_asked folder is = (
 
 pub html_some_asked : (folder : String Global) → codes "out" ≡ string_bytes folder
     → AsksForAll (subcommand_of covcollect (codes "covcollect" ∷ codes "html" ∷ codes "--output=out" ∷ codes "--title" ∷ codes "t" ∷ codes "--date" ∷ codes "d" ∷ codes "--source" ∷ codes "a=b" ∷ codes "--source" ∷ codes "c=d" ∷ codes "--strict" ∷ codes "f" ∷ codes "g" ∷ []))
-    (record { command = Html One 1 (record { includes = []; excludes = [] }) (record { folder = folder; title = Some (codes "t"); date = Some (codes "d"); sources = codes "a=b" ∷ codes "c=d" ∷ [] }) (codes "f" ∷ codes "g" ∷ []); strictness = Strict; size = Limited; output = None })
+    (record { command = Html One 1 (record { includes = []; excludes = [] }) (record { folder = folder; texts = record { title = Some (codes "t"); date = Some (codes "d"); sources = codes "a=b" ∷ codes "c=d" ∷ [] } }) (codes "f" ∷ codes "g" ∷ []); strictness = Strict; size = Limited; output = None })
 unfolding clap_on_literals
 html_some_asked folder is = (
   (
@@ -687,7 +689,7 @@ html_some_asked folder is = (
     refl,
     (codes "1", refl, refl),
     (refl, refl),
-    record { folder = ap (λ t. Some t) is; title = refl; date = refl; sources = refl },
+    record { folder = ap (λ t. Some t) is; texts = record { title = refl; date = refl; sources = refl } },
     refl,
   ),
   refl,

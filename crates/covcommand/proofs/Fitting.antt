@@ -13,7 +13,7 @@ use Rattle.clap.specs.Walk.{Row, Text, answers_to, has_row, nothing_held, rows_a
 use Rattle.clap.specs.Simple.{App, Shape, argument_words, built, entered, filled, help_rule, label_of, names_of, rows_at, subcommand_of, with_index, with_subcommand}
 use Rattle.clap.specs.Takes.{is_given}
 use Rattle.clap.specs.Faults.{built_fault, check_fault, entered_fault, fault_of, level_fault, repeat_fault, walk_fault}
-use Rattle.covcommand.specs.CommandLine.{check, combine, covcollect, expect, extract, files, files_from, filtering, flag, folder, gcov, html, jobs, json, limit, list, merge, null, one_test, output, own_jobs, paths, patterns, program, quiet, remove, several, single, sources, summary, test, text}
+use Rattle.covcommand.specs.CommandLine.{check, combine, covcollect, expect, extract, files, files_from, filtering, flag, folder, gcov, html, jobs, json, limit, list, merge, null, one_test, output, own_jobs, pages_folder, paths, patterns, program, quiet, remove, several, single, sources, summary, test, text}
 use Rattle.covcommand.specs.Found.{Fits, HasCheck, HasCombining, HasFiltering, HasFlag, HasFlags, HasListing, HasMerging, HasShowing, HasSome, HasTest}
 use Rattle.covcommand.proofs.Walks.{EachKeeps, Keeps, level_keeps, no_faults, settled_after}
 use Rattle.covcommand.proofs.Rows.{EachDefaultFits, FitsValues, RowOf, RowsFit, append_fits, defaulted, defaults_fit, given_row, has_default, has_flag, has_folder, has_jobs, has_number_if_any, has_some, has_test, held_row, is_flag, most_of, numbers, set_fits}
@@ -366,8 +366,27 @@ check_leaves words none =
 
 combine_leaves : Leaves (built_below combine) HasCombining
 combine_leaves words none =
+    let paged : EachKeeps RowsFit (with_index 2 (filled pages_folder) ∷ with_index 2 (filled (text (codes "title"))) ∷ with_index 2 (filled (text (codes "date"))) ∷ with_index 2 (filled sources)
+    ∷ with_index 2 (filled (limit (codes "fail-under-lines"))) ∷ with_index 2 (filled (limit (codes "fail-under-functions")))
+    ∷ with_index 2 (filled (limit (codes "fail-under-branches"))) ∷ with_index 2 (filled help_rule) ∷ []) = (
+      limit_keeps (codes "html") 2 (refl, refl),
+      (
+        limit_keeps (codes "title") 2 (refl, refl),
+        (
+          limit_keeps (codes "date") 2 (refl, refl),
+          (
+            patterns_keeps (codes "source") 2 (refl, refl),
+            (
+              limit_keeps (codes "fail-under-lines") 2 (refl, refl),
+              (limit_keeps (codes "fail-under-functions") 2 (refl, refl), (limit_keeps (codes "fail-under-branches") 2 (refl, refl), (help_keeps 2, tt))),
+            ),
+          ),
+        ),
+      ),
+    ) in
     let shown : EachKeeps RowsFit (with_index 2 (filled paths) ∷ with_index 2 (filled one_test) ∷ with_index 2 (filled files_from) ∷ with_index 2 (filled null)
     ∷ with_index 2 (filled (flag (codes "list"))) ∷ with_index 2 (filled json) ∷ with_index 2 (filled quiet)
+    ∷ with_index 2 (filled pages_folder) ∷ with_index 2 (filled (text (codes "title"))) ∷ with_index 2 (filled (text (codes "date"))) ∷ with_index 2 (filled sources)
     ∷ with_index 2 (filled (limit (codes "fail-under-lines"))) ∷ with_index 2 (filled (limit (codes "fail-under-functions")))
     ∷ with_index 2 (filled (limit (codes "fail-under-branches"))) ∷ with_index 2 (filled help_rule) ∷ []) = (
       patterns_keeps (codes "path") 2 (refl, refl),
@@ -381,13 +400,7 @@ combine_leaves words none =
               flag_keeps (codes "list") 2 refl,
               (
                 flag_keeps (codes "json") 2 refl,
-                (
-                  quiet_keeps 2,
-                  (
-                    limit_keeps (codes "fail-under-lines") 2 (refl, refl),
-                    (limit_keeps (codes "fail-under-functions") 2 (refl, refl), (limit_keeps (codes "fail-under-branches") 2 (refl, refl), (help_keeps 2, tt))),
-                  ),
-                ),
+                (quiet_keeps 2, paged),
               ),
             ),
           ),
@@ -408,7 +421,7 @@ combine_leaves words none =
       ),
     ) in
     let defaults : EachDefaultFits (built_below combine).rules =
-    (tt, (tt, (tt, (unset_fits (codes "strict") refl, (tt, (tt, (tt, (tt, (tt, (tt, (unset_fits (codes "null") refl, (unset_fits (codes "list") refl, (unset_fits (codes "json") refl, (unset_fits (codes "quiet") refl, (tt, (tt, (tt, (tt, tt)))))))))))))))))) in
+    (tt, (tt, (tt, (unset_fits (codes "strict") refl, (tt, (tt, (tt, (tt, (tt, (tt, (unset_fits (codes "null") refl, (unset_fits (codes "list") refl, (unset_fits (codes "json") refl, (unset_fits (codes "quiet") refl, (tt, (tt, (tt, (tt, (tt, (tt, (tt, (tt, tt)))))))))))))))))))))) in
     of_left _ (left_after (built_below combine) words each defaults none)
   where
     of_left : (rows : List Row) → Left (built_below combine) rows → HasCombining rows

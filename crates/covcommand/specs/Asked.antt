@@ -12,6 +12,7 @@ use Rattle.covcommand.specs.declared.asked.Command.TheVariants.{Session, Merge, 
 use Rattle.covcommand.specs.declared.asked.Command.TheVariants as commands
 use Rattle.covcommand.specs.declared.asked.Overview.{Overview}
 use Rattle.covcommand.specs.declared.asked.PageOptions.{PageOptions}
+use Rattle.covcommand.specs.declared.asked.PageTexts.{PageTexts}
 use Rattle.covcommand.specs.declared.asked.Overview.TheVariants as overviews
 use Rattle.covcommand.specs.declared.asked.SourceFilter.{SourceFilter}
 use Rattle.covcommand.specs.declared.asked.Strictness.{Strictness}
@@ -71,13 +72,16 @@ abbrev pub AreLimitsOf : List Row → Limits → Type 0
 AreLimitsOf rows limits = IsTextIfAny (codes "fail-under-lines") rows limits.lines
     × IsTextIfAny (codes "fail-under-functions") rows limits.functions × IsTextIfAny (codes "fail-under-branches") rows limits.branches
 
--- how pages are written: into the folder that `--output` names, with the texts of `--title` and `--date`, and with the words of
--- `--source` in their order
+-- the texts of pages: those of `--title` and `--date`, and the words of `--source` in their order
+pub record ArePageTextsOf (rows : List Row) (texts : PageTexts) : Type 0 where
+  pub title : IsTextIfAny (codes "title") rows texts.title
+  pub date : IsTextIfAny (codes "date") rows texts.date
+  pub sources : texts.sources ≡ values_of (codes "source") rows
+
+-- how pages are written: into the folder that `--output` names, with these texts
 pub record ArePagesOf (rows : List Row) (pages : PageOptions) : Type 0 where
   pub folder : first_of (codes "output") rows ≡ Some (string_bytes pages.folder)
-  pub title : IsTextIfAny (codes "title") rows pages.title
-  pub date : IsTextIfAny (codes "date") rows pages.date
-  pub sources : pages.sources ≡ values_of (codes "source") rows
+  pub texts : ArePageTextsOf rows pages.texts
 
 -- the number that clap found for the option, and `None` if the option isn't given
 abbrev pub IsNumberIfAny : Text → List Row → Option ℕ → Type 0
@@ -89,9 +93,9 @@ abbrev pub IsOverviewOf : List Row → Overview → Type 0
 IsOverviewOf rows overviews.Summary = one_of (codes "list") rows ≡ Some (codes "false")
 IsOverviewOf rows overviews.List = one_of (codes "list") rows ≡ Some (codes "true")
 
--- the word that clap found for `--files-from`, as it is, and `None` if the option isn't given
-abbrev pub IsListOf : List Row → Option (String Global) → Type 0
-IsListOf rows list = first_of (codes "files-from") rows ≡ option_map string_bytes list
+-- the word that clap found for the option, which is a path, as it is, and `None` if the option isn't given
+abbrev pub IsPathIfAny : Text → List Row → Option (String Global) → Type 0
+IsPathIfAny id rows path = first_of id rows ≡ option_map string_bytes path
 
 -- names in a list end at NUL bytes if clap sets the flag `--null`, and at line feeds if it doesn't
 abbrev pub IsNamesEndOf : List Row → NameEnd → Type 0
@@ -107,7 +111,7 @@ IsProgressOf rows progresses.Quiet = one_of (codes "quiet") rows ≡ Some (codes
 pub record AsksToCombine (rows : List Row) (options : CombineOptions) : Type 0 where
   pub jobs : IsNumberIfAny (codes "jobs") rows options.jobs
   pub expected : IsNumberIfAny (codes "expect") rows options.expected
-  pub list : IsListOf rows options.list
+  pub list : IsPathIfAny (codes "files-from") rows options.list
   pub names_end : IsNamesEndOf rows options.names_end
   pub paths : options.paths ≡ values_of (codes "path") rows
   pub test : IsTextIfAny (codes "one-test") rows options.test
@@ -115,6 +119,8 @@ pub record AsksToCombine (rows : List Row) (options : CombineOptions) : Type 0 w
   pub filter : IsFilterOf rows options.filter
   pub overview : IsOverviewOf rows options.overview
   pub form : IsFormOf rows options.form
+  pub html : IsPathIfAny (codes "html") rows options.html
+  pub texts : ArePageTextsOf rows options.texts
   pub limits : AreLimitsOf rows options.limits
   pub names : options.names ≡ values_of (codes "FILE") rows
 

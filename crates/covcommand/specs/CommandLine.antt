@@ -189,15 +189,6 @@ listed = with_rule (with_rule naming files_from) null
 abbrev pub showing : App
 showing = with_rule (with_rule (with_rule listed (flag (codes "list"))) json) quiet
 
--- and limits
-abbrev pub combine : App
-combine = with_rule (with_rule (with_rule showing (limit (codes "fail-under-lines")))
-    (limit (codes "fail-under-functions"))) (limit (codes "fail-under-branches"))
-
--- `--output DIR` or `-o DIR`, which has to be given
-abbrev pub folder : Rule
-folder = record output { required = true }
-
 -- an option that takes a text that pages show. It may be given once, or not at all: `--title TEXT`, `--date TEXT`
 abbrev pub text : Text → Rule
 text id = limit id
@@ -205,6 +196,23 @@ text id = limit id
 -- `--source OLD=NEW`. It may be given any number of times, or not at all
 abbrev pub sources : Rule
 sources = patterns (codes "source")
+
+-- `--html DIR`. It may be given once, or not at all
+abbrev pub pages_folder : Rule
+pages_folder = limit (codes "html")
+
+-- and pages
+abbrev pub paged : App
+paged = with_rule (with_rule (with_rule (with_rule showing pages_folder) (text (codes "title"))) (text (codes "date"))) sources
+
+-- and limits
+abbrev pub combine : App
+combine = with_rule (with_rule (with_rule paged (limit (codes "fail-under-lines")))
+    (limit (codes "fail-under-functions"))) (limit (codes "fail-under-branches"))
+
+-- `--output DIR` or `-o DIR`, which has to be given
+abbrev pub folder : Rule
+folder = record output { required = true }
 
 -- `html`: files, how they are read, and patterns of source files
 abbrev pub shown_files : App

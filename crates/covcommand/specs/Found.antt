@@ -50,7 +50,7 @@ abbrev pub HasNumberIfAny : Text → (most : ℕ) → List Row → Type 0
 HasNumberIfAny id most rows =
     (one_of id rows ≡ None) ⊎ ((text : Text) × (one_of id rows ≡ Some (without_minus text)) × IsSignedIn (pos 1) (pos most) text)
 
--- clap found what `combine` requires. It requires no file
+-- clap found what `combine` requires. It requires no file, and nothing of options that may have no row
 pub record HasCombining (rows : List Row) : Type 0 where
   pub jobs : HasNumberIfAny (codes "jobs") 64 rows
   pub expected : HasNumberIfAny (codes "expect") 1048576 rows

@@ -130,6 +130,10 @@ pub struct CombineOptions {
     pub overview: Overview,
     /// How the overview's totals are printed.
     pub form: TotalsForm,
+    /// `--html`: the path of a folder for pages, or `None` without the option.
+    pub html: Option<String>,
+    /// The texts of the pages.
+    pub texts: PageTexts,
     /// The thresholds.
     pub limits: Limits,
     /// The files' paths, which may be none.
@@ -163,11 +167,18 @@ pub enum Overview {
     List,
 }
 
-/// How pages are written. The texts are `None` for a missing option.
+/// How pages are written.
 #[derive(Drop)]
 pub struct PageOptions {
     /// `--output`: the path of the folder for the pages.
     pub folder: String,
+    /// The texts of the pages.
+    pub texts: PageTexts,
+}
+
+/// The texts that pages show beside the counts. The title and the date are `None` for a missing option.
+#[derive(Drop)]
+pub struct PageTexts {
     /// `--title`: the title of the index.
     pub title: Option<Bytes>,
     /// `--date`: the date that the index shows.

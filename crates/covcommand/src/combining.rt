@@ -6,6 +6,7 @@ ghost use Rattle.covcommand.specs.Built.{HasNoGlobals, IsRule};
 
 use crate::described::{explained, flag, json, limit, output, patterns, strict, taking};
 use crate::help;
+use crate::html::{sources, text};
 use clap::{Arg, ArgAction, Command, value_parser};
 use std::alloc::{AllocError, Global};
 
@@ -13,14 +14,24 @@ use std::alloc::{AllocError, Global};
 pub(crate) fn combine<'a>(alloc: Global) -> Result<Command<'a>, AllocError>
     ensures { IfOk result (HasNoGlobals line.combine) }
 {
-    let combine = explained(showing(alloc), help::COMBINE, help::COMBINE_END);
+    let combine = explained(paged(alloc), help::COMBINE, help::COMBINE_END);
     let lines = limit(alloc, "fail-under-lines", help::FAIL_UNDER_LINES);
     let functions = limit(alloc, "fail-under-functions", help::FAIL_UNDER_FUNCTIONS);
     let branches = limit(alloc, "fail-under-branches", help::FAIL_UNDER_BRANCHES);
     taking(taking(taking(combine, lines), functions), branches)
 }
 
-/// Returns `combine` without thresholds: that of `listed` with three flags for what is shown.
+/// Returns `combine` without thresholds: that of `showing` with options for pages.
+fn paged<'a>(alloc: Global) -> Result<Command<'a>, AllocError>
+    ensures { IfOk result (HasNoGlobals line.paged) }
+{
+    let paged = taking(showing(alloc), pages_folder(alloc));
+    let paged = taking(paged, text(alloc, "title", help::TITLE));
+    let paged = taking(paged, text(alloc, "date", help::DATE));
+    taking(paged, sources(alloc))
+}
+
+/// Returns that of `listed` with three flags for what is shown.
 fn showing<'a>(alloc: Global) -> Result<Command<'a>, AllocError>
     ensures { IfOk result (HasNoGlobals line.showing) }
 {
@@ -146,4 +157,15 @@ fn quiet<'a>(alloc: Global) -> Arg<'a>
         .long("quiet")
         .action(ArgAction::SetTrue)
         .help(help::QUIET)
+}
+
+/// `--html DIR`, the folder for pages.
+fn pages_folder<'a>(alloc: Global) -> Arg<'a>
+    ensures { IsRule line.pages_folder result }
+{
+    Arg::new(alloc, "html")
+        .long("html")
+        .value_name("DIR")
+        .action(ArgAction::Set)
+        .help(help::PAGES)
 }

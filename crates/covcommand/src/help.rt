@@ -164,6 +164,8 @@ and to count what is under /build/a as what is under /src
   covcollect combine --path /build/a=/src -o all.info jobs/*.info
 and to end with status 6 where too little is hit
   covcollect combine --fail-under-lines 80 -o all.info jobs/*.info
+and to write pages for a browser too (html --help tells of them)
+  covcollect combine --html pages -o all.info jobs/*.info
 Without -o the tracefile is printed.";
 
 /// What `html` does.
@@ -282,6 +284,9 @@ pub(crate) const FAIL_UNDER_BRANCHES: &str = "Status 6 if less than N% of branch
 
 /// The help of `--output` for `html`.
 pub(crate) const FOLDER: &str = "Folder for the pages: new, empty, or of html";
+
+/// The help of `--html`.
+pub(crate) const PAGES: &str = "Write pages too: DIR is new, empty, or of html";
 
 /// The help of `--title`.
 pub(crate) const TITLE: &str = "Title of the index; Coverage without it";

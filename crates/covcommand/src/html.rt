@@ -50,7 +50,7 @@ fn folder<'a>(alloc: Global) -> Arg<'a>
 }
 
 /// An option for a text that the pages show, allowed at most once.
-fn text<'a>(alloc: Global, id: &'a str, help: &'a str) -> Arg<'a>
+pub(crate) fn text<'a>(alloc: Global, id: &'a str, help: &'a str) -> Arg<'a>
     ensures { IsRule (line.text id.entry.now) result }
 {
     Arg::new(alloc, id)
@@ -61,7 +61,7 @@ fn text<'a>(alloc: Global, id: &'a str, help: &'a str) -> Arg<'a>
 }
 
 /// `--source OLD=NEW`, where source files lie. It may be repeated.
-fn sources<'a>(alloc: Global) -> Arg<'a>
+pub(crate) fn sources<'a>(alloc: Global) -> Arg<'a>
     ensures { IsRule line.sources result }
 {
     Arg::new(alloc, "source")

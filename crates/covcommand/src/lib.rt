@@ -30,8 +30,8 @@ mod spelling;
 mod word;
 
 pub use asked::{
-    Asked, CombineOptions, Command, Limits, NameEnd, Overview, PageOptions, Progress, SourceFilter,
-    Strictness, TextFormat, TextSize, TotalsForm,
+    Asked, CombineOptions, Command, Limits, NameEnd, Overview, PageOptions, PageTexts, Progress,
+    SourceFilter, Strictness, TextFormat, TextSize, TotalsForm,
 };
 pub use covdata::LcovVersion;
 pub use fault::CommandFault;

@@ -4,14 +4,14 @@ ghost use Rattle.std.specs.Prelude.{◌≡◌, ◌≢◌, ◌≤◌, ◌++◌, [
 ghost use Rattle.std.specs.String.{string_bytes};
 ghost use Rattle.clap.specs.Words.{rows_of, found_of, subcommand_of, takes, fault_of, first_of};
 ghost use Rattle.covcommand.specs.CommandLine.{covcollect};
-ghost use Rattle.covcommand.specs.Asked.{AreLimitsOf, ArePagesOf, AsksFor, AsksToCombine, GoesTo, HasSize, HasStrictness, IsFilterOf, IsFormOf, IsFormatOf, IsInBounds, IsListOf, IsNamesEndOf, IsNumberIfAny, IsNumberOf, IsOutputOf, IsOverviewOf, IsProgressOf, IsSizeOf, IsStrictnessOf, IsTextIfAny, IsUpToIfAny, IsVersionOf, rows_met, tracefile_and_patterns, values_of};
+ghost use Rattle.covcommand.specs.Asked.{AreLimitsOf, ArePageTextsOf, ArePagesOf, AsksFor, AsksToCombine, GoesTo, HasSize, HasStrictness, IsFilterOf, IsFormOf, IsFormatOf, IsInBounds, IsNamesEndOf, IsNumberIfAny, IsNumberOf, IsOutputOf, IsOverviewOf, IsPathIfAny, IsProgressOf, IsSizeOf, IsStrictnessOf, IsTextIfAny, IsUpToIfAny, IsVersionOf, rows_met, tracefile_and_patterns, values_of};
 ghost use Rattle.covcommand.specs.Found.{Fits, HasCombining, HasFilter, HasFlag, HasFolder, HasJobs, HasNumberIfAny, HasSome, HasTest, TellsFlags};
 ghost use Rattle.covcommand.specs.Fault.{IsFaultAmong};
 ghost use Rattle.covcommand.specs.declared.fault.CommandFault.TheVariants as faults;
 
 use crate::asked::{
-    Asked, CombineOptions, Command, Limits, NameEnd, Overview, PageOptions, Progress, SourceFilter,
-    Strictness, TextFormat, TextSize, TotalsForm,
+    Asked, CombineOptions, Command, Limits, NameEnd, Overview, PageOptions, PageTexts, Progress,
+    SourceFilter, Strictness, TextFormat, TextSize, TotalsForm,
 };
 use crate::described::described;
 use crate::fault::CommandFault;
@@ -213,7 +213,7 @@ fn combine_options_of(alloc: Global, found: &ArgMatches<'_>) -> Result<CombineOp
     Ok(CombineOptions {
         jobs: jobs_if_any(found),
         expected: expected_of(found),
-        list: list_of(alloc, found)?,
+        list: path_if_any(alloc, found, "files-from")?,
         names_end: names_end_of(found),
         paths: patterns_of(alloc, found, "path")?,
         test: text_if_any(alloc, found, "one-test")?,
@@ -221,6 +221,8 @@ fn combine_options_of(alloc: Global, found: &ArgMatches<'_>) -> Result<CombineOp
         filter: source_filter_of(alloc, found)?,
         overview: overview_of(found),
         form: form_of(found),
+        html: path_if_any(alloc, found, "html")?,
+        texts: page_texts_of(alloc, found)?,
         limits: limits_of(alloc, found)?,
         names: names_of(alloc, found)?,
     })
@@ -244,11 +246,11 @@ fn expected_of(found: &ArgMatches<'_>) -> Option<u32>
     found.get_one::<u32>("expect")
 }
 
-/// The argument of `--files-from`, or `None` without the option.
-fn list_of(alloc: Global, found: &ArgMatches<'_>) -> Result<Option<String>, Memory>
-    ensures { IfOk result (IsListOf (rows_of (found_of found.now))) }
+/// The argument of the option `id`, which is a path, or `None` without the option.
+fn path_if_any(alloc: Global, found: &ArgMatches<'_>, id: &str) -> Result<Option<String>, Memory>
+    ensures { IfOk result (IsPathIfAny id.now (rows_of (found_of found.now))) }
 {
-    match found.get_str("files-from") {
+    match found.get_str(id) {
         Some(path) => Ok(Some(String::from_str(alloc, path)?)),
         None => Ok(None),
     }
@@ -355,6 +357,15 @@ fn page_options_of(alloc: Global, found: &ArgMatches<'_>) -> Result<PageOptions,
 {
     Ok(PageOptions {
         folder: folder_of(alloc, found)?,
+        texts: page_texts_of(alloc, found)?,
+    })
+}
+
+/// The texts of pages.
+fn page_texts_of(alloc: Global, found: &ArgMatches<'_>) -> Result<PageTexts, Memory>
+    ensures { IfOk result (ArePageTextsOf (rows_of (found_of found.now))) }
+{
+    Ok(PageTexts {
         title: text_if_any(alloc, found, "title")?,
         date: text_if_any(alloc, found, "date")?,
         sources: patterns_of(alloc, found, "source")?,

@@ -5,7 +5,8 @@
 
 use covcommand::{
     Asked, CombineOptions, Command, CommandFault, LcovVersion, Limits, NameEnd, Names, Overview,
-    PageOptions, Progress, SourceFilter, Strictness, TextFormat, TextSize, TotalsForm, command,
+    PageOptions, PageTexts, Progress, SourceFilter, Strictness, TextFormat, TextSize, TotalsForm,
+    command,
 };
 use std::alloc::Global;
 use std::fmt::Write;
@@ -176,8 +177,8 @@ fn put_command(rt: &impl Abort, text: &mut String, command: &Command) {
     }
 }
 
-/// Appends the command `combine`, its numbers, the list, the paths, the test, the source filter, the overview, the thresholds and
-/// the names.
+/// Appends the command `combine`, its numbers, the list, the paths, the test, the source filter, the overview, the pages, the
+/// thresholds and the names.
 fn put_combine(rt: &impl Abort, text: &mut String, options: &CombineOptions) {
     put(rt, text, "combine");
     put_number(rt, text, " jobs(", options.jobs);
@@ -193,6 +194,10 @@ fn put_combine(rt: &impl Abort, text: &mut String, options: &CombineOptions) {
     put_each(rt, text, " -[", &options.filter.excludes);
     put(rt, text, progress_word(&options.progress));
     put(rt, text, overview_word(&options.overview));
+    if let Some(folder) = &options.html {
+        put_marked(rt, text, " html[", folder.as_str());
+    }
+    put_texts(rt, text, &options.texts);
     put_summary(rt, text, &options.form, &options.limits, &options.names);
 }
 
@@ -232,13 +237,18 @@ fn overview_word(overview: &Overview) -> &'static str {
 /// Appends the folder for pages, their texts, and where source files lie.
 fn put_pages(rt: &impl Abort, text: &mut String, pages: &PageOptions) {
     put_marked(rt, text, " >[", pages.folder.as_str());
-    if let Some(title) = &pages.title {
+    put_texts(rt, text, &pages.texts);
+}
+
+/// Appends the texts of pages, and where source files lie.
+fn put_texts(rt: &impl Abort, text: &mut String, texts: &PageTexts) {
+    if let Some(title) = &texts.title {
         put_limit(rt, text, " title(", title.get());
     }
-    if let Some(date) = &pages.date {
+    if let Some(date) = &texts.date {
         put_limit(rt, text, " date(", date.get());
     }
-    put_each(rt, text, " source[", &pages.sources);
+    put_each(rt, text, " source[", &texts.sources);
 }
 
 /// Appends `word`, in parentheses the LCOV version and the number of jobs, and then the source filter.

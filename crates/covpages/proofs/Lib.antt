@@ -7,3 +7,4 @@ pub mod DirectoryNames
 pub mod Folders
 pub mod SourcePages
 pub mod SourceTexts
+pub mod Rules

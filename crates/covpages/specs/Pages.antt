@@ -1,5 +1,6 @@
 -- The folder that `html` writes.
 use Rattle.std.specs.Prelude.{◌≡◌, ◌⊎◌, ℕ, ◌+◌, Bool, true, false, not, ◌==◌, Option, List, [], ◌∷◌, ◌++◌, length, codes, nat_le, if◌then◌else◌, unwrap_or}
+use Rattle.covcommand.specs.declared.asked.PageTexts.{PageTexts}
 use Rattle.covcommand.specs.declared.asked.Strictness.{Strictness}
 use Rattle.covcommand.specs.declared.asked.Strictness.TheVariants.{Lenient, Strict}
 use Rattle.covhtml.specs.DirectoryPages.{IndexedDirectoryData, directory_index, directory_page, directory_page_name}
@@ -37,6 +38,18 @@ pub record PagesWorkData : Type 1 where
   pub choice : ChoiceData
   pub strictness : Strictness
   pub sources : FolderData
+
+-- the work that these texts ask for. `sources`: the folder that has the source files
+abbrev pub pages_work : (sources : FolderData) → (folder : List ℕ) → PageTexts → ChoiceData → Strictness → PagesWorkData
+pages_work sources folder texts choice strictness = record {
+  folder = folder;
+  title = texts.title;
+  date = texts.date;
+  rules = texts.sources;
+  choice = choice;
+  strictness = strictness;
+  sources = sources;
+}
 
 -- the source files that are shown, each with its totals: those of a list
 abbrev pub files_shown : PagesWorkData → List SectionData → List FileTotalsData
@@ -165,6 +178,18 @@ IsPagesFault work sections (faults.Refused lines) =
     (is_refused work.strictness lines ≡ true) × ((sources : List SourceData) × AreSources work sections (files_shown work sections) sources
     × (lines ≡ complaints_of work (files_shown work sections) sources))
 IsPagesFault work sections faults.Memory = Unit {0}
+
+-- pages weren't written for this reason, and no file was finished
+abbrev pub AreUnwritten : PagesWorkData → List SectionData → PagesFault → (files files_after : OutputFilesData) → Type 0
+AreUnwritten work sections fault files after =
+    IsPagesFault work sections fault × (after.finished ≡ files.finished) × (after.names ≡ files.names)
+
+-- the status of a call whose pages weren't written
+abbrev pub pages_status : PagesFault → ℕ
+pages_status faults.Foreign = 1
+pages_status faults.Unwritten = 1
+pages_status (faults.Refused lines) = 5
+pages_status faults.Memory = 3
 
 abbrev pub of_output : OutputFault → PagesFault
 of_output output_faults.Failed = faults.Unwritten

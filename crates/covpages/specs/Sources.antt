@@ -1,5 +1,6 @@
 -- Where source files lie, and which of their texts pages show.
-use Rattle.std.specs.Prelude.{◌≡◌, ◌≤◌, ℕ, Bool, ◌==◌, ◌||◌, nat_le, if◌then◌else◌, Option, None, Some, List, [], ◌∷◌, ◌++◌, length, codes, map, option_map, false, true, ◌⊎◌}
+use Rattle.std.specs.Prelude.{◌≡◌, ◌≤◌, ℕ, Bool, ◌==◌, ◌||◌, nat_le, if◌then◌else◌, Option, None, Some, List, [], ◌∷◌, ◌++◌, length, codes, map, option_map, is_some, IsTrue, false, true, ◌⊎◌}
+use Rattle.std.specs.List.{AllByRecursion}
 use Rattle.std.specs.Str.{IsUtf8}
 use Rattle.covcommand.specs.declared.asked.Strictness.{Strictness}
 use Rattle.covcommand.specs.declared.asked.Strictness.TheVariants.{Lenient, Strict}
@@ -60,6 +61,10 @@ located_by (rule ∷ rules) path = first_or (located_in rule path) (located_by r
 
 abbrev pub rules_of : (words : List (List ℕ)) → List (Option (List ℕ × List ℕ))
 rules_of words = map rule_of words
+
+-- each word is a rule for where source files lie
+abbrev pub AreRules : (words : List (List ℕ)) → Type 0
+AreRules words = AllByRecursion (λ word. IsTrue (is_some (rule_of word))) words
 
 -- ---- their texts
 

@@ -1,12 +1,11 @@
 -- Values of the code, seen as plain data.
 use Rattle.std.specs.Prelude.{ℕ, List, map}
-use Rattle.std.specs.String.{string_bytes}
 use Rattle.covhtml.specs.DirectoryPages.{IndexedDirectoryData, directory_index, directory_page}
 use Rattle.covhtml.specs.IndexPage.{IndexedFileData, index_page}
 use Rattle.covhtml.specs.PagesView.{directory_data, directory_index_data, index_page_data, source_page_data}
 use Rattle.covhtml.specs.SourcePage.{source_page}
 use Rattle.covhtml.specs.declared.style_sheet.TheConstants.{STYLE}
-use Rattle.covpages.specs.Pages.{PagesWorkData}
+use Rattle.covpages.specs.Pages.{PagesWorkData, pages_work}
 use Rattle.covpages.specs.Steps.{ProgressData}
 use Rattle.covpages.specs.declared.writing.Progress.{Progress}
 use Rattle.covpages.specs.Sources.{SourceData, Text, Unreadable, Short}
@@ -43,12 +42,4 @@ progress_data progress = record { entries = map entry_data progress.entries.item
 
 -- `sources`: the folder that has the source files, as data
 abbrev pub work_data : {F T : Type 0} → (sources : FolderData) → PagesWork F T → PagesWorkData
-work_data sources work = record {
-  folder = string_bytes work.options.now.folder;
-  title = work.options.now.title;
-  date = work.options.now.date;
-  rules = work.options.now.sources;
-  choice = choice_data work.choice.now;
-  strictness = work.strictness;
-  sources = sources;
-}
+work_data sources work = pages_work sources work.folder.now work.texts.now (choice_data work.choice.now) work.strictness

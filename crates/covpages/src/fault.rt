@@ -7,7 +7,7 @@ use std::alloc::AllocError;
 /// Why pages can't be written. The older folder, if there is one, is as it was.
 #[derive(Drop)]
 pub enum PagesFault {
-    /// The folder has files that `html` didn't write.
+    /// The folder has files that are no pages.
     Foreign,
     /// The folder, or a file of it, can't be written.
     Unwritten,
@@ -15,6 +15,22 @@ pub enum PagesFault {
     Refused(Bytes),
     /// An allocation failed.
     Memory,
+}
+
+impl PagesFault {
+    ghost use Rattle.std.specs.Prelude.{◌≡◌};
+    ghost use Rattle.covpages.specs.Pages.{pages_status};
+
+    /// The exit status of a call whose pages aren't written for this reason.
+    pub fn status(&self) -> u8
+        ensures { result ≡ pages_status self.now }
+    {
+        match self {
+            PagesFault::Foreign | PagesFault::Unwritten => 1,
+            PagesFault::Refused(_) => 5,
+            PagesFault::Memory => 3,
+        }
+    }
 }
 
 impl From<Memory> for PagesFault {

@@ -2,7 +2,7 @@
 //!
 //! `write_pages` goes through the source files of a table once: it reads a source file (`source_text`), prints its page into the new
 //! folder (`page`), and notes it for the index (`entries`), which is printed last. The folder gets its name after all pages are
-//! written. `SourceRule` says where source files lie if they aren't where their paths say.
+//! written. `source_rule` says where source files lie if they aren't where their paths say.
 //!
 //! A sketch, which no test runs: the pages of a table, or the words for why they weren't written.
 //!
@@ -32,5 +32,5 @@ mod source_text;
 mod writing;
 
 pub use fault::PagesFault;
-pub use source_rule::SourceRule;
+pub use source_rule::is_source_rule;
 pub use writing::{PagesWork, write_pages};

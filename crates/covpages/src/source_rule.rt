@@ -1,6 +1,6 @@
 //! Where source files lie.
 
-ghost use Rattle.std.specs.Prelude.{◌≡◌, ◌||◌, IfOk, map, option_map};
+ghost use Rattle.std.specs.Prelude.{◌≡◌, ◌||◌, IfOk, is_some, map, option_map};
 ghost use Rattle.std.specs.String.{string_bytes};
 ghost use Rattle.covpages.specs.Sources.{ends_at_slash as ends_with_slash, is_apart as is_apart_rest, located_by, located_in, rest_under, rule_of, rules_of};
 
@@ -9,14 +9,14 @@ use std::alloc::Global;
 
 /// A rule for where source files lie: those under `old` lie under `new`.
 #[derive(Clone, Copy)]
-pub struct SourceRule<'a> {
+pub(crate) struct SourceRule<'a> {
     old: &'a [u8],
     new: &'a [u8],
 }
 
 impl<'a> SourceRule<'a> {
     /// The rule that `word` gives, as `OLD=NEW`, or `None` if the word has no `=`. `old` ends before the first `=`.
-    pub fn of(word: &'a str) -> Option<SourceRule<'a>>
+    pub(crate) fn of(word: &'a str) -> Option<SourceRule<'a>>
         ensures { option_map (λ rule. (rule.old.now, rule.new.now)) result ≡ rule_of word.now }
     {
         let Some((old, new)) = word.split_once('=') else {
@@ -41,6 +41,13 @@ impl<'a> SourceRule<'a> {
             None
         }
     }
+}
+
+/// Whether `word` is a rule for where source files lie.
+pub fn is_source_rule(word: &str) -> bool
+    ensures { result ≡ is_some (rule_of word.now) }
+{
+    SourceRule::of(word).is_some()
 }
 
 /// Whether a name ends between `old` and `rest`, which make up a path.

@@ -24,7 +24,7 @@ use crate::listed::{Entry, Linked};
 use crate::page::Page;
 use crate::source_rule::located;
 use crate::source_text::{Source, put_complaint, read_source};
-use covcommand::{PageOptions, Strictness};
+use covcommand::{PageTexts, Strictness};
 use covdata::{Bytes, Memory};
 use covhtml::{
     Directory, DirectoryIndex, IndexPage, Points, PointsTable, Row, SourcePage, TestTotals,
@@ -46,8 +46,10 @@ const TITLE: &[u8] = b"Coverage";
 pub struct PagesWork<'w, F, T> {
     /// The allocator.
     pub alloc: Global,
-    /// The folder for the pages, their texts, and where source files lie.
-    pub options: &'w PageOptions,
+    /// The name of the folder for the pages.
+    pub folder: &'w str,
+    /// The texts of the pages, and where source files lie.
+    pub texts: &'w PageTexts,
     /// The source files that are shown.
     pub choice: &'w Choice,
     /// Whether source files whose text can't be shown are refused.
@@ -99,7 +101,7 @@ pub fn write_pages<F: Folder, T: PointsTable<Global>, P: FolderWriter>(
     ensures unnamed { OnErr result (P.names files.new ≡ P.names files.old) }
     ensures none { P.begun files.new ≡ None }
 {
-    let (mut report, place) = files.begin_folder(work.options.folder.as_str())?;
+    let (mut report, place) = files.begin_folder(work.folder)?;
     match write_report(work, &mut report) {
         Ok(warnings) => {
             files.finish_folder(report, place)?;
@@ -257,10 +259,10 @@ fn source_for<F: Folder, T>(
     rows: &[Row<'_>],
     complaints: &mut Bytes,
 ) -> Result<Source, Memory>
-    ensures source { IfOk result (λ source. IsSource (folder_data F.Folder F.File.Source work.now.sources.now) (located_by (rules_of work.now.options.now.sources) path.now) (map row_data rows.now) (source_data source)) }
-    ensures complaint { IfOk result (λ source. complaints.new ≡ complaints.old ++ complaint_of work.now.strictness (located_by (rules_of work.now.options.now.sources) path.now) (source_data source)) }
+    ensures source { IfOk result (λ source. IsSource (folder_data F.Folder F.File.Source work.now.sources.now) (located_by (rules_of work.now.texts.now.sources) path.now) (map row_data rows.now) (source_data source)) }
+    ensures complaint { IfOk result (λ source. complaints.new ≡ complaints.old ++ complaint_of work.now.strictness (located_by (rules_of work.now.texts.now.sources) path.now) (source_data source)) }
 {
-    let name = located(work.alloc, work.options.sources.get(), path)?;
+    let name = located(work.alloc, work.texts.sources.get(), path)?;
     let source = read_source(work.sources, work.alloc, name.get(), rows)?;
     put_complaint(work.strictness, name.get(), &source, complaints)?;
     Ok(source)
@@ -275,9 +277,9 @@ fn write_index<F, T: PointsTable<Global>, D: OutputFolder>(
     requires free { D.begun report.old ≡ None }
     requires few { D.failed report.old < 2 ^ 62 }
     requires totals { totals_together (map entry_data entries.now) ≡ totals_of_chosen (choice_data work.now.choice.now) (T.shown work.now.table.now).sections }
-    ensures index { OnOk result (AreFinished (index_files work.now.options.now.title work.now.options.now.date
+    ensures index { OnOk result (AreFinished (index_files work.now.texts.now.title work.now.texts.now.date
         (totals_of_chosen (choice_data work.now.choice.now) (T.shown work.now.table.now).sections) (map entry_data entries.now)) (D.finished report.old) (D.finished report.new)) }
-    ensures named { OnOk result (AreAdded (index_files work.now.options.now.title work.now.options.now.date
+    ensures named { OnOk result (AreAdded (index_files work.now.texts.now.title work.now.texts.now.date
         (totals_of_chosen (choice_data work.now.choice.now) (T.shown work.now.table.now).sections) (map entry_data entries.now)) (D.names report.old) (D.names report.new)) }
     ensures none { D.begun report.new ≡ None }
     ensures good { OnOk result (D.failed report.new ≡ D.failed report.old) }
@@ -289,8 +291,8 @@ fn write_index<F, T: PointsTable<Global>, D: OutputFolder>(
         return write_directories(work, entries.len() as u64, directories.as_slice(), report);
     }
     let page = IndexPage {
-        title: title_of(work.options),
-        date: date_of(work.options),
+        title: title_of(work.texts),
+        date: date_of(work.texts),
         totals,
         directories: directories.as_slice(),
     };
@@ -308,9 +310,9 @@ fn write_directories<F, T: PointsTable<Global>, D: OutputFolder>(
     requires free { D.begun report.old ≡ None }
     requires few { D.failed report.old < 2 ^ 62 }
     requires number { number < 2 ^ 63 }
-    ensures finished { OnOk result (AreFinished (directory_files work.now.options.now.title work.now.options.now.date
+    ensures finished { OnOk result (AreFinished (directory_files work.now.texts.now.title work.now.texts.now.date
         (totals_of_chosen (choice_data work.now.choice.now) (T.shown work.now.table.now).sections) number (map directory_data directories.now)) (D.finished report.old) (D.finished report.new)) }
-    ensures named { OnOk result (AreAdded (directory_files work.now.options.now.title work.now.options.now.date
+    ensures named { OnOk result (AreAdded (directory_files work.now.texts.now.title work.now.texts.now.date
         (totals_of_chosen (choice_data work.now.choice.now) (T.shown work.now.table.now).sections) number (map directory_data directories.now)) (D.names report.old) (D.names report.new)) }
     ensures none { D.begun report.new ≡ None }
     ensures good { OnOk result (D.failed report.new ≡ D.failed report.old) }
@@ -318,8 +320,8 @@ fn write_directories<F, T: PointsTable<Global>, D: OutputFolder>(
     let linked = write_directory_pages(work.alloc, number, directories, report)?;
     let rows = indexed_directories(work.alloc, linked.as_slice())?;
     let page = DirectoryIndex {
-        title: title_of(work.options),
-        date: date_of(work.options),
+        title: title_of(work.texts),
+        date: date_of(work.texts),
         totals: chosen_totals(work.table, work.choice),
         directories: rows.as_slice(),
     };
@@ -366,20 +368,20 @@ fn push_linked<'d>(linked: &mut Vec<Linked<'d>>, last: Linked<'d>) -> Result<(),
 }
 
 /// The title of the index.
-fn title_of(options: &PageOptions) -> &[u8]
-    ensures { result.now ≡ unwrap_or options.now.title (codes "Coverage") }
+fn title_of(texts: &PageTexts) -> &[u8]
+    ensures { result.now ≡ unwrap_or texts.now.title (codes "Coverage") }
 {
-    match &options.title {
+    match &texts.title {
         Some(title) => title.get(),
         None => TITLE,
     }
 }
 
 /// The date of the index, if one is given.
-fn date_of(options: &PageOptions) -> Option<&[u8]>
-    ensures { option_map (λ d. d.now) result ≡ options.now.date }
+fn date_of(texts: &PageTexts) -> Option<&[u8]>
+    ensures { option_map (λ d. d.now) result ≡ texts.now.date }
 {
-    match &options.date {
+    match &texts.date {
         Some(date) => Some(date.get()),
         None => None,
     }

@@ -6,4 +6,3 @@ pub mod Patterns
 pub mod Places
 pub mod Reading
 pub mod Showing
-pub mod Rules

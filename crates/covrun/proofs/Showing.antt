@@ -8,7 +8,7 @@ use Rattle.covcommand.specs.declared.asked.PageOptions.{PageOptions}
 use Rattle.covcommand.specs.declared.asked.Strictness.{Strictness}
 use Rattle.covcommand.specs.declared.asked.Strictness.TheVariants.{Lenient, Strict}
 use Rattle.covdata.specs.declared.version.LcovVersion.TheVariants as versions
-use Rattle.covpages.specs.Pages.{PagesWorkData, IsPagesFault, IsWritten as ArePagesWritten}
+use Rattle.covpages.specs.Pages.{PagesWorkData, AreUnwritten, IsPagesFault, IsWritten as ArePagesWritten, pages_status}
 use Rattle.covpages.specs.declared.fault.PagesFault.{PagesFault}
 use Rattle.covpages.specs.declared.fault.PagesFault.TheVariants as pages_faults
 use Rattle.covreport.specs.Choice.{ChoiceData}
@@ -22,7 +22,7 @@ use Rattle.covworld.specs.Folder.{FolderData}
 use Rattle.covworld.specs.OutputFiles.{OutputFilesData}
 use Rattle.covworld.specs.Streams.{SinksData, Complains, Withholds}
 use Rattle.covworld.specs.World.{WorldData}
-use Rattle.covrun.specs.Call.{AreTextsIn, IsEndingPrinted, IsEndingReported, IsFailure, IsShown, PagesEnd, WorkEnds, pages_complaint, pages_status, pages_work}
+use Rattle.covrun.specs.Call.{AreTextsIn, IsEndingPrinted, IsEndingReported, IsFailure, IsShown, PagesEnd, WorkEnds, pages_complaint, pages_work}
 use Rattle.covrun.specs.Ending.{EndingData, Prints, FallsShort, BadLine, BadWords, Unreadable, Stopped, Ungathered, Refuses, IsUnclean, asked_text, complaints, of_collected, ran_out, strict_lines, unless_any, with_shortfalls}
 use Rattle.covrun.specs.Naming.{naming_asked, naming_for, naming_of, naming_read}
 use Rattle.covrun.specs.Told.{IsFaultTold, IsFolderTold}
@@ -150,7 +150,7 @@ pages_shown folder work pages list files named outcome count entries refused sec
 abbrev EndsSo : PagesWorkData → List SectionData → (status : ℕ) → OutputFilesData → OutputFilesData → SinksData → SinksData → Type 0
 EndsSo work sections status old_files new_files old new =
     ((warnings : List ℕ) × (status ≡ 0) × ArePagesWritten work sections old_files new_files warnings × Withholds old new × Complains warnings old new)
-    ⊎ ((fault : PagesFault) × IsPagesFault work sections fault × (status ≡ pages_status fault) × (new_files.finished ≡ old_files.finished) × (new_files.names ≡ old_files.names)
+    ⊎ ((fault : PagesFault) × AreUnwritten work sections fault old_files new_files × (status ≡ pages_status fault)
     × Withholds old new × Complains (pages_complaint work.folder fault) old new)
 
 -- pages of these source files were written, and warnings are told
@@ -180,10 +180,8 @@ pages_unwritten work choice same sections status old_files new_files old new fau
     let here = subst (λ (name : List ℕ). IsFaultTold name told status old new) named reported in
     inr (
       told,
-      fault_of_told work sections fault told is (subst (λ (c : ChoiceData). IsPagesFault (record work { choice = c }) sections fault) same comes),
+      (fault_of_told work sections fault told is (subst (λ (c : ChoiceData). IsPagesFault (record work { choice = c }) sections fault) same comes), finished, names),
       here.0,
-      finished,
-      names,
       here.1,
       here.2,
     )

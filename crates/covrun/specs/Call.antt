@@ -38,7 +38,7 @@ use Rattle.covrun.specs.Naming.{naming_of, told_name}
 use Rattle.covrun.specs.Work.{WorkData, TaskData, Serves, Collects, Checks, Combines, Shows, choice_asked, last_of, task_of, input_of, AreTaken, AreRefused}
 use Rattle.covcommand.specs.declared.asked.PageOptions.{PageOptions}
 use Rattle.covbook.specs.Step.{ops_in, table_of}
-use Rattle.covpages.specs.Pages.{PagesWorkData, IsPagesFault, IsWritten as ArePagesWritten}
+use Rattle.covpages.specs.Pages.{PagesWorkData, AreUnwritten, IsWritten as ArePagesWritten, pages_status, pages_work as asked_pages}
 use Rattle.covpages.specs.declared.fault.PagesFault.{PagesFault}
 use Rattle.covpages.specs.declared.fault.PagesFault.TheVariants as pages_faults
 use Rattle.covtable.specs.Content.{SectionData, content_at}
@@ -191,23 +191,9 @@ IsWorkDone folder work file status old new =
 
 -- what pages are written of
 abbrev pub pages_work : FolderData → WorkData → PageOptions → PagesWorkData
-pages_work folder work pages = record {
-  folder = string_bytes pages.folder;
-  title = pages.title;
-  date = pages.date;
-  rules = pages.sources;
-  choice = choice_asked work.asks;
-  strictness = work.strictness;
-  sources = folder;
-}
+pages_work folder work pages = asked_pages folder (string_bytes pages.folder) pages.texts (choice_asked work.asks) work.strictness
 
--- the status for pages that weren't written, and what is written to the stream for faults
-abbrev pub pages_status : PagesFault → ℕ
-pages_status pages_faults.Foreign = 1
-pages_status pages_faults.Unwritten = 1
-pages_status (pages_faults.Refused lines) = 5
-pages_status pages_faults.Memory = fault_status faults.Memory
-
+-- what is written to the stream for faults if pages weren't written
 abbrev pub pages_complaint : (folder : List ℕ) → PagesFault → List ℕ
 pages_complaint folder pages_faults.Foreign = shown_name folder ++ said (codes ": has files that html didn't write")
 pages_complaint folder pages_faults.Unwritten = shown_name folder ++ said (codes ": can't write")
@@ -219,7 +205,7 @@ abbrev pub PagesEnd : PagesWorkData → List SectionData → (status : ℕ) → 
 PagesEnd work sections status old new =
     ((warnings : List ℕ) × (status ≡ 0) × ArePagesWritten work sections old.files new.files warnings
     × Withholds old.sinks new.sinks × Complains warnings old.sinks new.sinks)
-    ⊎ ((fault : PagesFault) × IsPagesFault work sections fault × (status ≡ pages_status fault) × (new.files.finished ≡ old.files.finished) × (new.files.names ≡ old.files.names)
+    ⊎ ((fault : PagesFault) × AreUnwritten work sections fault old.files new.files × (status ≡ pages_status fault)
     × Withholds old.sinks new.sinks × Complains (pages_complaint work.folder fault) old.sinks new.sinks)
 
 -- what `html` does. It fails as a list of the same files would fail, and then no file is finished; or the files were collected, a list of

@@ -1,8 +1,9 @@
 -- Private steps: how it is told that pages weren't written.
 use Rattle.std.specs.Prelude.{◌≡◌, ◌++◌, ℕ, List}
 use Rattle.covlist.specs.Shown.{shown_name}
+use Rattle.covpages.specs.Pages.{pages_status}
 use Rattle.covpages.specs.declared.fault.PagesFault.{PagesFault}
-use Rattle.covrun.specs.Call.{pages_complaint, pages_status}
+use Rattle.covrun.specs.Call.{pages_complaint}
 use Rattle.covworld.specs.Streams.{SinksData, Complains, Withholds}
 
 -- this fault of the folder is reported

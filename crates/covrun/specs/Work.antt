@@ -1,6 +1,6 @@
 -- What a subcommand has to do, and which of its words are refused before any file is read.
 use Rattle.std.specs.List.{AllByRecursion}
-use Rattle.std.specs.Prelude.{◌≡◌, ◌⊎◌, ◌<◌, ◌≤◌, ℕ, if◌then◌else◌, List, [], Option, None, Some, length, take, drop, is_some, IsTrue}
+use Rattle.std.specs.Prelude.{◌≡◌, ◌⊎◌, ◌<◌, ◌≤◌, ℕ, if◌then◌else◌, List, [], Option, None, Some, length, take, drop}
 use Rattle.covdata.specs.Lawful.{IsGoodTest}
 use Rattle.covlimit.specs.Limits.{LimitsData, has_limit}
 use Rattle.covlimit.specs.Rates.{IsRate}
@@ -16,7 +16,7 @@ use Rattle.covcommand.specs.declared.asked.TotalsForm.{TotalsForm}
 use Rattle.covcommand.specs.declared.asked.TotalsForm.TheVariants as forms
 use Rattle.covcommand.specs.declared.asked.SourceFilter.{SourceFilter}
 use Rattle.covcommand.specs.declared.asked.Strictness.{Strictness}
-use Rattle.covpages.specs.Sources.{rule_of}
+use Rattle.covpages.specs.Sources.{AreRules}
 use Rattle.covdata.specs.declared.version.LcovVersion.{LcovVersion}
 use Rattle.covdata.specs.declared.version.LcovVersion.TheVariants as versions
 use Rattle.covcommand.specs.declared.asked.TextFormat.{TextFormat}
@@ -176,10 +176,6 @@ AreRates limits = IsRateIfAny limits.lines × IsRateIfAny limits.functions × Is
 abbrev pub IsLimitFault : LimitsData → ArgumentFault → Type 0
 IsLimitFault limits fault = (fault ≡ arguments.BadRate) × (AreRates limits → ⊥)
 
--- each word is a rule for where source files lie
-abbrev pub AreRules : List (List ℕ) → Type 0
-AreRules words = AllByRecursion (λ word. IsTrue (is_some (rule_of word))) words
-
 abbrev pub IsRuleFault : List (List ℕ) → ArgumentFault → Type 0
 IsRuleFault words fault = (fault ≡ arguments.BadSource) × (AreRules words → ⊥)
 
@@ -202,7 +198,7 @@ AreTaken (Remove version names) = ArePatterns (drop 1 names)
 AreTaken (Gcov test names) = IsGoodTest test
 AreTaken (Check format jobs names) = Unit {0}
 AreTaken (Combine options) = Unit {0}
-AreTaken (Html version jobs filter pages names) = IsFilter filter × AreRules pages.sources
+AreTaken (Html version jobs filter pages names) = IsFilter filter × AreRules pages.texts.sources
 
 -- a pattern, a limit or the test's name is refused for this reason
 abbrev pub AreRefused : Command → ArgumentFault → Type 0
@@ -215,7 +211,7 @@ AreRefused (Remove version names) fault = IsPatternFault (drop 1 names) fault
 AreRefused (Gcov test names) fault = IsTestFault test fault
 AreRefused (Check format jobs names) fault = ⊥
 AreRefused (Combine options) fault = ⊥
-AreRefused (Html version jobs filter pages names) fault = IsShowFault filter pages.sources fault
+AreRefused (Html version jobs filter pages names) fault = IsShowFault filter pages.texts.sources fault
 
 -- a list of source files is asked for
 abbrev pub AsksList : QuestionData → Type 0

@@ -117,9 +117,11 @@ fn show<F: Folder, P: FolderWriter, I: Source, O: Sink, E: Sink, T: PointsTable<
     ensures end { PagesEnd (pages_work (folder_data F.Folder F.File.Source folder.now) (work_data work.now) pages.now)
         (T.shown table.now).sections result world.old world.new }
 {
+    let name = pages.folder.as_str();
     let shown = PagesWork {
         alloc,
-        options: pages,
+        folder: name,
+        texts: &pages.texts,
         choice: shown_files(&work.asks),
         strictness: work.strictness,
         sources: folder,
@@ -127,7 +129,7 @@ fn show<F: Folder, P: FolderWriter, I: Source, O: Sink, E: Sink, T: PointsTable<
     };
     match write_pages(&shown, &mut world.files) {
         Ok(warnings) => complain(b"", warnings.get(), 0, &mut world.sinks),
-        Err(fault) => report_fault(alloc, pages.folder.as_str(), fault, &mut world.sinks),
+        Err(fault) => report_fault(alloc, name, fault, &mut world.sinks),
     }
 }
 

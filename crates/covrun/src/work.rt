@@ -9,7 +9,7 @@ use covcommand::{
 };
 use covdata::{Bytes, Memory, good_test};
 use covlimit::{Limits, Rate};
-use covpages::SourceRule;
+use covpages::is_source_rule;
 use covreport::{Choice, PatternFault, Patterns};
 use std::alloc::{AllocError, Global};
 
@@ -123,16 +123,16 @@ impl From<PatternFault> for WorkFault {
     }
 }
 
-ghost use Rattle.std.specs.Prelude.{◌≡◌, map, option_map, take, drop, is_some, IfOk, IfErr};
+ghost use Rattle.std.specs.Prelude.{◌≡◌, map, option_map, take, drop, IfOk, IfErr};
 ghost use Rattle.std.specs.String.{string_bytes};
 ghost use Rattle.covdata.specs.Lawful.{IsGoodTest};
-ghost use Rattle.covpages.specs.Sources.{rule_of};
+ghost use Rattle.covpages.specs.Sources.{AreRules};
 ghost use Rattle.covreport.specs.ChoiceView.{choice_data};
 ghost use Rattle.covrun.specs.View.{question_data, task_data};
 ghost use Rattle.covlimit.specs.LimitsView.{limits_data};
 ghost use Rattle.covbook.specs.Op.{ExtractOp, RemoveOp, ReportOp};
 ghost use Rattle.covrun.specs.declared.work.FileFormat.TheVariants.{GcovOutput};
-ghost use Rattle.covrun.specs.Work.{Answer, filtering, choice_of, limits_of, checked_as as checked_as_of, task_of, tracefiles as tracefiles_of, ArePatterns, AreRates, AreRules, AreTaken, Checks, Collects, IsFilter, IsRateIfAny};
+ghost use Rattle.covrun.specs.Work.{Answer, filtering, choice_of, limits_of, checked_as as checked_as_of, task_of, tracefiles as tracefiles_of, ArePatterns, AreRates, AreTaken, Checks, Collects, IsFilter, IsRateIfAny};
 ghost use Rattle.covrun.specs.WorkFault.{IsRefusal, IsFilterRefusal, IsLimitRefusal, IsPatternRefusal, IsRuleRefusal, IsTestRefusal};
 ghost use Rattle.covrun.specs.declared.argument_fault.ArgumentFault.TheVariants as arguments;
 ghost use Rattle.covrun.specs.declared.work.WorkFault.TheVariants as faults;
@@ -205,7 +205,7 @@ pub(crate) fn task_for(
             names,
         } => {
             let asks = Question::list(TotalsForm::Words, chosen_files(alloc, &filter)?);
-            check_rules(pages.sources.get())?;
+            check_rules(pages.texts.sources.get())?;
             let work = Work {
                 files: names,
                 format: tracefiles(size, version),
@@ -368,18 +368,11 @@ fn check_rules(words: &[String]) -> Result<(), WorkFault>
     ensures refused { IfErr result (IsRuleRefusal (map string_bytes words.now)) }
 {
     for word in words {
-        if !is_rule(word.as_str()) {
+        if !is_source_rule(word.as_str()) {
             return Err(WorkFault::Words(ArgumentFault::BadSource));
         }
     }
     Ok(())
-}
-
-/// Whether `word` is a rule for where source files lie.
-fn is_rule(word: &str) -> bool
-    ensures { result ≡ is_some (rule_of word.now) }
-{
-    SourceRule::of(word).is_some()
 }
 
 /// Checks that a test may have the name `test`.

@@ -53,6 +53,8 @@ covcollect combine --strict -q a.info => combine quiet [a.info] strict large
 covcollect combine --quiet a.info --json --list => combine quiet list json [a.info] large
 covcollect combine --include '*.c' --exclude '/usr/*' --fail-under-lines 80 a.info => combine +[*.c] -[/usr/*] lines(80) [a.info] large
 covcollect combine -- -q => combine [-q] large
+covcollect combine --html dir --title t --date=d --source /a=/b --source /c=/d a.info => combine html[dir] title(t) date(d) source[/a=/b] source[/c=/d] [a.info] large
+covcollect combine --title t a.info => combine title(t) [a.info] large
 covcollect combine -j 0 a.info => 2 2 error: invalid value '0' for '--jobs <N>': 0 is not in 1..=64
 covcollect combine --expect 0 a.info => 2 2 error: invalid value '0' for '--expect <N>': 0 is not in 1..=1048576
 covcollect combine --expect 1048577 a.info => 2 2 error: invalid value '1048577' for '--expect <N>': 1048577 is not in 1..=1048576

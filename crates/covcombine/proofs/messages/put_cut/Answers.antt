@@ -1,11 +1,9 @@
 use Rattle.std.proofs.Common.{◌∙◌, ◌++◌, ◌∷◌, [], codes, ℕ, List, ap}
-use Rattle.covlist.specs.Shown.{shown_name}
-use Rattle.covcombine.proofs.Lines.{ended_three, on_ok, three}
+use Rattle.covcombine.proofs.Lines.{ended_two, on_ok, three}
 use Rattle.covcombine.proofs.messages.put_cut.Goals as goal
 
 pub returns : goal.returns
 returns c =
-    on_ok c.append-2.result c.append-2.new.self c.put_shown_name.new.text (codes " is" ++ 10 ∷ []) _ c.append-2.ensures.ok
-    (three c.args.lines.now _ c.append.new.self c.in_ok-append.ensures.ok _ c.put_shown_name.new.text c.in_ok-put_shown_name.ensures.ok _
-    ∙ ap (λ (t : List ℕ). c.args.lines.now ++ t)
-    (ended_three (codes "standard output can't be written, but ") (shown_name c.args.name.now) (codes " is") (10 ∷ [])))
+    on_ok c.append-2.result c.append-2.new.self c.put_but_written.new.lines (10 ∷ []) _ c.append-2.ensures.ok
+    (three c.args.lines.now _ c.append.new.self c.in_ok-append.ensures.ok _ c.put_but_written.new.lines c.in_ok-put_but_written.ensures _
+    ∙ ap (λ (t : List ℕ). c.args.lines.now ++ t) (ended_two (codes "standard output can't be written") _ (10 ∷ [])))

@@ -1,6 +1,6 @@
 use Rattle.std.proofs.Common.{refl}
 use Rattle.std.proofs.lemmas.Result.{err_from_is_err_and}
-use Rattle.covcombine.proofs.Taken.{faultless, name_refused, new_name_refused, one_file_refused, pattern_refused, rate_refused, room_refused, same_test}
+use Rattle.covcombine.proofs.Taken.{faultless, folder_refused, name_refused, new_name_refused, one_file_refused, pattern_refused, rate_refused, room_refused, same_test, source_refused, sources_taken}
 use Rattle.covcombine.proofs.work.work_of.Goals as goal
 
 pub returns-in_err-choice-clause-fault : goal.returns-in_err-choice-clause-fault
@@ -25,6 +25,16 @@ returns-in_err-check_overview-clause-fault g c =
     let told = err_from_is_err_and c.from_residual-in_err-check_overview.result c.from_residual-in_err-check_overview.ensures.1 in
     rw (told.1, told.2) (room_refused _ c.args.options.now _ _ _ c.in_err-check_overview.ensures.fault)
 
+pub returns-in_err-check_pages-clause-fault : goal.returns-in_err-check_pages-clause-fault
+returns-in_err-check_pages-clause-fault g c =
+    let told = err_from_is_err_and c.from_residual-in_err-check_pages.result c.from_residual-in_err-check_pages.ensures.1 in
+    rw (told.1, told.2) (folder_refused _ c.args.options.now _ _ _ c.in_err-check_pages.ensures.fault)
+
+pub returns-in_err-check_sources-clause-fault : goal.returns-in_err-check_sources-clause-fault
+returns-in_err-check_sources-clause-fault g c =
+    let told = err_from_is_err_and c.from_residual-in_err-check_sources.result c.from_residual-in_err-check_sources.ensures.1 in
+    rw (told.1, told.2) (source_refused _ c.args.options.now _ _ _ _ c.get.ensures c.in_err-check_sources.ensures.fault)
+
 pub returns-in_err-check_names-clause-fault : goal.returns-in_err-check_names-clause-fault
 returns-in_err-check_names-clause-fault g c =
     let told = err_from_is_err_and c.from_residual-in_err-check_names.result c.from_residual-in_err-check_names.ensures.1 in
@@ -37,7 +47,8 @@ returns-in_err-check_files-clause-fault g c =
 
 pub returns-clause-work : goal.returns-clause-work
 returns-clause-work g c = record {
-  faultless = faultless _ c.args.options.now _ _ c.in_ok-choice.ensures.taken c.in_ok-limits.ensures.good c.in_ok-check_overview.ensures.room c.in_ok-check_names.ensures.names
+  faultless = faultless _ c.args.options.now _ _ c.in_ok-choice.ensures.taken c.in_ok-limits.ensures.good c.in_ok-check_overview.ensures.room
+      c.in_ok-check_pages.ensures.folder (sources_taken _ _ c.get.ensures c.in_ok-check_sources.ensures.rules) c.in_ok-check_names.ensures.names
       c.in_ok-new_names.new_names.rules c.in_ok-new_names.ensures.rules c.in_ok-new_names.ensures.good.rules
       (same_test _ _ c.in_ok-new_names.ensures.test c.in_ok-new_names.ensures.good.test);
   apart = c.in_ok-check_files.ensures.apart;
@@ -49,6 +60,8 @@ returns-clause-work g c = record {
   choice = c.in_ok-choice.ensures.choice;
   overview = refl;
   form = refl;
+  html = c.folder_of.ensures;
+  texts = refl;
   limits = c.in_ok-limits.ensures.limits;
   expected = refl;
 }

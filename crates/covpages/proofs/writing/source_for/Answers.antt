@@ -7,7 +7,7 @@ use Rattle.covpages.proofs.writing.source_for.Goals as goal
 
 pub returns-clause-source : goal.returns-clause-source
 returns-clause-source g c =
-    let place : c.get-2.result.now ≡ located_by (rules_of c.args.work.now.options.now.sources) c.args.path.now =
+    let place : c.get-2.result.now ≡ located_by (rules_of c.args.work.now.texts.now.sources) c.args.path.now =
     c.get-2.ensures ∙ c.in_ok-name.ensures ∙ ap (λ (words : List (List ℕ)). located_by (rules_of words) c.args.path.now) c.get.ensures in
     subst (λ (name : List ℕ). IsSource (folder_data g.F.Folder g.F.File.Source c.args.work.now.sources.now) name (map row_data c.args.rows.now) (source_data c.in_ok-source.source))
     place c.in_ok-source.ensures

@@ -11,7 +11,7 @@ use Rattle.covpages.proofs.writing.write_directories.Goals as goal
 
 pub returns-clause-finished : goal.returns-clause-finished
 returns-clause-finished g c =
-    let options = c.args.work.now.options.now in
+    let options = c.args.work.now.texts.now in
     let totals = totals_of_chosen (choice_data c.args.work.now.choice.now) (g.T.Table.shown c.args.work.now.table.now).sections in
     let directories = map directory_data c.args.directories.now in
     let rows : map indexed_directory_data c.as_slice-2.result.now ≡ linked_after c.args.number directories =
@@ -26,7 +26,7 @@ returns-clause-finished g c =
 
 pub returns-clause-named : goal.returns-clause-named
 returns-clause-named g c =
-    let options = c.args.work.now.options.now in
+    let options = c.args.work.now.texts.now in
     let totals = totals_of_chosen (choice_data c.args.work.now.choice.now) (g.T.Table.shown c.args.work.now.table.now).sections in
     let directories = map directory_data c.args.directories.now in
     let index = directory_index_with options.title options.date totals (linked_after c.args.number directories) in

@@ -16,7 +16,7 @@ use Rattle.covpages.proofs.writing.write_index.Goals as goal
 
 pub returns-then-entries-gt-MOST_LISTED-clause-index : goal.returns-then-entries-gt-MOST_LISTED-clause-index
 returns-then-entries-gt-MOST_LISTED-clause-index g c =
-    let options = c.args.work.now.options.now in
+    let options = c.args.work.now.texts.now in
     let totals = totals_of_chosen (choice_data c.args.work.now.choice.now) (g.T.Table.shown c.args.work.now.table.now).sections in
     let entries = map entry_data c.args.entries.now in
     let made : map directory_data c.as_slice-then-entries-gt-MOST_LISTED.result.now ≡ directories_of entries =
@@ -33,7 +33,7 @@ returns-then-entries-gt-MOST_LISTED-clause-index g c =
 
 pub returns-then-entries-gt-MOST_LISTED-clause-named : goal.returns-then-entries-gt-MOST_LISTED-clause-named
 returns-then-entries-gt-MOST_LISTED-clause-named g c =
-    let options = c.args.work.now.options.now in
+    let options = c.args.work.now.texts.now in
     let totals = totals_of_chosen (choice_data c.args.work.now.choice.now) (g.T.Table.shown c.args.work.now.table.now).sections in
     let entries = map entry_data c.args.entries.now in
     let made : map directory_data c.as_slice-then-entries-gt-MOST_LISTED.result.now ≡ directories_of entries =
@@ -50,7 +50,7 @@ returns-then-entries-gt-MOST_LISTED-clause-named g c =
 
 pub returns-clause-index : goal.returns-clause-index
 returns-clause-index g c =
-    let options = c.args.work.now.options.now in
+    let options = c.args.work.now.texts.now in
     let totals = totals_of_chosen (choice_data c.args.work.now.choice.now) (g.T.Table.shown c.args.work.now.table.now).sections in
     let entries = map entry_data c.args.entries.now in
     let made : map directory_data c.as_slice-2.result.now ≡ directories_of entries =
@@ -70,7 +70,7 @@ returns-clause-index g c =
 
 pub returns-clause-named : goal.returns-clause-named
 returns-clause-named g c =
-    let options = c.args.work.now.options.now in
+    let options = c.args.work.now.texts.now in
     let totals = totals_of_chosen (choice_data c.args.work.now.choice.now) (g.T.Table.shown c.args.work.now.table.now).sections in
     let entries = map entry_data c.args.entries.now in
     subst (λ (l : List (List ℕ × List ℕ)). AreAdded l (g.D.OutputFolder.names c.args.report.now) (g.D.OutputFolder.names c.write_text.new.files))

@@ -11,7 +11,7 @@ returns-in_ok-finish_folder-in-Ok-clause-written g c =
     let begun = c.begin_folder.new.self in
     let after = c.finish_folder.new.self in
     let full = c.write_report.new.report in
-    let named = c.in_ok-report.ensures.name ∙ c.as_str.ensures.value in
+    let named = c.in_ok-report.ensures.name in
     folder_written work (g.T.Table.shown c.args.work.now.table.now).sections _
     (output_files (g.P.OutputFolder.finished begun) (g.P.OutputFolder.names begun) (g.P.OutputFolder.begun begun) (g.P.OutputFolder.failed begun)) _ _ _ _
     c.in-Ok.ensures.written c.in_ok-report.ensures.empty c.in_ok-report.ensures.no_names c.in_ok-report.ensures.same c.in_ok-report.ensures.unnamed

@@ -13,7 +13,7 @@ returns-in-Ok g c =
       input = refl;
       begun = c.write_pages.ensures.none ∙ sym begun;
       end = pages_written (pages_work (folder_data g.F.Folder g.F.File.Source c.args.folder.now) (work_data c.args.work.now) c.args.pages.now) _ c.shown_files.ensures (g.T.Table.shown c.args.table.now).sections _ _ _ _ _ c.in-Ok.warnings _ c.get.ensures
-          c.complain.ensures.status c.in-Ok.ensures.written c.complain.ensures.withheld c.complain.ensures.said;
+          c.complain.ensures.status (rw c.as_str-name.ensures.value at c.in-Ok.ensures.written) c.complain.ensures.withheld c.complain.ensures.said;
     }
 
 pub returns-in-Err : goal.returns-in-Err
@@ -22,6 +22,6 @@ returns-in-Err g c =
     rw (← c.world.view_is) record {
       input = refl;
       begun = c.write_pages.ensures.none ∙ sym begun;
-      end = pages_unwritten (pages_work (folder_data g.F.Folder g.F.File.Source c.args.folder.now) (work_data c.args.work.now) c.args.pages.now) _ c.shown_files.ensures (g.T.Table.shown c.args.table.now).sections _ _ _ _ _ c.in-Err.fault _ c.as_str.ensures.value
-          c.in-Err.ensures.refused c.in-Err.ensures.same c.in-Err.ensures.unnamed c.report_fault.ensures;
+      end = pages_unwritten (pages_work (folder_data g.F.Folder g.F.File.Source c.args.folder.now) (work_data c.args.work.now) c.args.pages.now) _ c.shown_files.ensures (g.T.Table.shown c.args.table.now).sections _ _ _ _ _ c.in-Err.fault _ c.as_str-name.ensures.value
+          (rw c.as_str-name.ensures.value at c.in-Err.ensures.refused) c.in-Err.ensures.same c.in-Err.ensures.unnamed c.report_fault.ensures;
     }

@@ -1,18 +1,18 @@
 use Rattle.std.proofs.Common.{ap, is_some, refl, string_bytes, ◌∙◌}
 use Rattle.covpages.specs.Sources.{rule_of}
-use Rattle.covrun.proofs.Rules.{all_rules, more_rules, no_rules}
+use Rattle.covpages.proofs.Rules.{all_rules, more_rules, no_rules}
 use Rattle.covrun.proofs.work.check_rules.Goals as goal
 
 pub loop-word-preserved : goal.loop-word-preserved
 loop-word-preserved c =
-    more_rules string_bytes c.args.words.now c.loop-word.word-index c.word-item.result c.loop-word-test.true c.loop-word.invariant c.is_rule.result
-    (c.is_rule.ensures ∙ ap (λ word. is_some (rule_of word)) (c.as_str.ensures.value ∙ ap string_bytes c.word-item.is)) c.if-not-is_rule.false
+    more_rules string_bytes c.args.words.now c.loop-word.word-index c.word-item.result c.loop-word-test.true c.loop-word.invariant c.is_source_rule.result
+    (c.is_source_rule.ensures ∙ ap (λ word. is_some (rule_of word)) (c.as_str.ensures.value ∙ ap string_bytes c.word-item.is)) c.if-not-is_source_rule.false
 
-pub returns-then-not-is_rule-clause-refused : goal.returns-then-not-is_rule-clause-refused
-returns-then-not-is_rule-clause-refused c = (
+pub returns-then-not-is_source_rule-clause-refused : goal.returns-then-not-is_source_rule-clause-refused
+returns-then-not-is_source_rule-clause-refused c = (
   refl,
-  no_rules string_bytes c.args.words.now c.loop-word.word-index c.word-item.result c.loop-word-test.true c.is_rule.result
-      (c.is_rule.ensures ∙ ap (λ word. is_some (rule_of word)) (c.as_str.ensures.value ∙ ap string_bytes c.word-item.is)) c.if-not-is_rule.true,
+  no_rules string_bytes c.args.words.now c.loop-word.word-index c.word-item.result c.loop-word-test.true c.is_source_rule.result
+      (c.is_source_rule.ensures ∙ ap (λ word. is_some (rule_of word)) (c.as_str.ensures.value ∙ ap string_bytes c.word-item.is)) c.if-not-is_source_rule.true,
 )
 
 pub returns-clause-taken : goal.returns-clause-taken

@@ -1,6 +1,6 @@
 use Rattle.std.specs.Prelude.{map, take}
 use Rattle.std.specs.String.{string_bytes}
-use Rattle.covrun.specs.Work.{AreRules}
+use Rattle.covpages.specs.Sources.{AreRules}
 use Rattle.covrun.proofs.work.check_rules.Given as goal
 
 -- the words so far are rules

@@ -1,7 +1,6 @@
 -- Which words are rules for where source files lie.
 use Rattle.std.proofs.Common.{◌≡◌, ◌+◌, ◌<◌, ◌≤◌, ℕ, zero, suc, Bool, true, false, List, [], ◌∷◌, length, get_or, take, map, is_some, arith, add-one}
-use Rattle.covpages.specs.Sources.{rule_of}
-use Rattle.covrun.specs.Work.{AreRules}
+use Rattle.covpages.specs.Sources.{AreRules, rule_of}
 
 more_are : {X : Type 0} (name : X → List ℕ) (words : List X) (i : ℕ) (default : X) → i < length words → AreRules (map name (take i words))
     → is_some (rule_of (name (get_or words i default))) ≡ true → AreRules (map name (take (suc i) words))
