@@ -13,7 +13,7 @@ use Rattle.covcommand.specs.declared.asked.Overview.TheVariants as overviews
 use Rattle.covcommand.specs.declared.asked.SourceFilter.{SourceFilter}
 use Rattle.covcommand.specs.declared.asked.TotalsForm.{TotalsForm}
 use Rattle.covcommand.specs.declared.asked.TotalsForm.TheVariants as forms
-use Rattle.covlimit.specs.Rates.{IsRate}
+use Rattle.covlist.specs.Rates.{IsRate}
 use Rattle.covpages.specs.Sources.{AreRules as AreSourceRules, rule_of as source_rule_of}
 use Rattle.covpaths.specs.Names.{IsGoodTestIfAny}
 use Rattle.covpaths.specs.Paths.{IsGoodRule, IsRuleFault, RuleData, rule_of}

@@ -10,7 +10,7 @@ use Rattle.covcommand.specs.declared.asked.Strictness.{Strictness}
 use Rattle.covcommand.specs.declared.asked.Strictness.TheVariants.{Lenient, Strict}
 use Rattle.covcommand.specs.declared.asked.TotalsForm.{TotalsForm}
 use Rattle.covcommand.specs.declared.asked.TotalsForm.TheVariants.{Words, Json}
-use Rattle.covlimit.specs.Limits.{shortfalls}
+use Rattle.covlist.specs.Limits.{shortfalls}
 use Rattle.covlist.specs.Chosen.{chosen_files, chooses_any, is_matched, totals_of_chosen}
 use Rattle.covlist.specs.Json.{list_json_of, summary_json_of}
 use Rattle.covlist.specs.Table.{list_table_of}

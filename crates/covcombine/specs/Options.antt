@@ -11,8 +11,8 @@ use Rattle.covcommand.specs.declared.asked.Strictness.{Strictness}
 use Rattle.covcommand.specs.declared.asked.TotalsForm.{TotalsForm}
 use Rattle.covcommand.specs.declared.asked.TotalsForm.TheVariants.{Json}
 use Rattle.covdata.specs.Lawful.{IsGoodTest}
-use Rattle.covlimit.specs.Limits.{LimitsData}
-use Rattle.covlimit.specs.Rates.{IsRate}
+use Rattle.covlist.specs.Limits.{LimitsData}
+use Rattle.covlist.specs.Rates.{IsRate}
 use Rattle.covpages.specs.Sources.{rule_of as source_rule_of}
 use Rattle.covpaths.specs.Names.{AreGoodNames, NamesData}
 use Rattle.covpaths.specs.Paths.{IsRuleFault, RuleData, rule_of}

@@ -15,7 +15,7 @@ use Rattle.covlarge.specs.State.{MayFailFrom, MayGive}
 use Rattle.covlarge.specs.Summary.{SummaryData, told_number}
 use Rattle.covlarge.specs.declared.fault.PieceFault.{PieceFault}
 use Rattle.covlarge.specs.declared.fault.PieceFault.TheVariants as pieces
-use Rattle.covlimit.specs.Rates.{IsRate}
+use Rattle.covlist.specs.Rates.{IsRate}
 use Rattle.covpages.specs.Pages.{pages_status}
 use Rattle.covpages.specs.declared.fault.PagesFault.{PagesFault}
 use Rattle.covpages.specs.Sources.{rule_of as source_rule_of}

@@ -1,7 +1,7 @@
 -- Values of the code, seen as plain data.
 use Rattle.std.specs.Prelude.{map, option_map}
 use Rattle.std.specs.String.{string_bytes}
-use Rattle.covlimit.specs.LimitsView.{limits_data}
+use Rattle.covlist.specs.LimitsView.{limits_data}
 use Rattle.covreport.specs.ChoiceView.{choice_data}
 use Rattle.covtable.specs.Shown.{ShownData}
 use Rattle.covcombine.specs.Combine.{EndingData, Fails, Gives, GivenData, PagesData, TextsData}

@@ -2,8 +2,8 @@
 
 ghost use Rattle.std.specs.Prelude.{◌≡◌, List, Option, Some, map, option_map, IfOk, IfErr, IfSome};
 ghost use Rattle.std.specs.String.{string_bytes};
-ghost use Rattle.covlimit.specs.LimitsView.{limits_data};
-ghost use Rattle.covlimit.specs.Rates.{IsRate};
+ghost use Rattle.covlist.specs.LimitsView.{limits_data};
+ghost use Rattle.covlist.specs.Rates.{IsRate};
 ghost use Rattle.covpages.specs.Sources.{AreRules};
 ghost use Rattle.covpaths.specs.Names.{AreGoodNames, IsGoodTestIfAny};
 ghost use Rattle.covpaths.specs.Paths.{IsGoodRule, rule_of as rule_of_word};
@@ -21,7 +21,7 @@ use covcommand::{
     TotalsForm,
 };
 use covdata::{Bytes, Memory, good_test};
-use covlimit::{Limits, Rate};
+use covlist::{Limits, Rate};
 use covpages::is_source_rule;
 use covpaths::{NewNames, PathRule};
 use covreport::{Choice, PatternFault, Patterns};

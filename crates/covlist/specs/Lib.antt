@@ -2,3 +2,8 @@ pub mod Chosen
 pub mod Shown
 pub mod Table
 pub mod Json
+pub mod Rates
+pub mod Cuts
+pub mod Shortfalls
+pub mod Limits
+pub mod LimitsView

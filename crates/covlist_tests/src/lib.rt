@@ -1,4 +1,4 @@
-//! Tests of covlist: lists of files as a table and as JSON. This crate has only tests.
+//! Tests of covlist: lists of files as a table and as JSON, and thresholds. This crate has only tests.
 #![tactic(auto)]
 
 #[cfg(test)]

@@ -1,10 +1,12 @@
-//! Tests of lists of files. The expected values were worked out by hand from the rules of the two formats.
+//! Tests of lists of files and of thresholds. The expected values were worked out by hand from the rules of the two formats and from
+//! what a rate means.
 
 use std::process::Abort;
 use std::test::*;
 
 mod forms;
 mod heap;
+mod limits;
 mod names;
 mod objects;
 mod refused;

@@ -13,7 +13,7 @@ use Rattle.covbook.specs.Op.{OpData, SubmitOp, DropTestOp, RenameOp, ReportOp, E
 use Rattle.covtable.specs.Content.{SectionData, content_at}
 use Rattle.covtable.specs.Files.{FileTotalsData, files_with_totals}
 use Rattle.covtable.specs.Table.{Table}
-use Rattle.covlimit.specs.Limits.{LimitsData}
+use Rattle.covlist.specs.Limits.{LimitsData}
 use Rattle.covlist.specs.Chosen.{chosen_files, totals_of_chosen}
 use Rattle.covlist.specs.Shown.{shown_name}
 use Rattle.covreport.specs.Choice.{ChoiceData, AllFiles}
@@ -51,7 +51,7 @@ use Rattle.covrun.specs.View.{failure_data}
 use Rattle.covrun.specs.declared.ending.Failure.{Failure}
 use Rattle.covrun.specs.declared.ending.Failure.TheVariants as failures
 use Rattle.covrun.specs.Ending.{EndingData, Prints, FallsShort, Unreadable, Stopped, Refuses, IsUnclean, strict_lines, of_collect, of_collected, complaints, refusal_line, ran_out, shortfall_status, text_in, text_at, last_text, asked_shortfalls, asked_text, list_text, unless_any, with_shortfalls}
-use Rattle.covlimit.specs.Limits.{has_limit}
+use Rattle.covlist.specs.Limits.{has_limit}
 use Rattle.covrun.specs.Work.{QuestionData, Answer, ChosenReport, ChosenTotals, ChosenList, last_of, choice_of, asked_of, limits_of, summary_asked, words_asked, WorkData, TaskData, Serves, Collects, Checks, Combines, Shows, AsksList, task_of}
 use Rattle.covcommand.specs.declared.asked.TextSize.{TextSize}
 use Rattle.covrun.specs.declared.work.CheckedFormat.{CheckedFormat}

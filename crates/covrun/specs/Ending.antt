@@ -7,7 +7,7 @@ use Rattle.covtable.specs.Files.{FileTotalsData}
 use Rattle.covtable.specs.declared.totals.Totals.{Totals}
 use Rattle.covcommand.specs.declared.asked.TotalsForm.{TotalsForm}
 use Rattle.covcommand.specs.declared.asked.TotalsForm.TheVariants as forms
-use Rattle.covlimit.specs.Limits.{shortfalls}
+use Rattle.covlist.specs.Limits.{shortfalls}
 use Rattle.covlist.specs.Chosen.{chosen_files, totals_of_chosen}
 use Rattle.covlist.specs.Json.{list_json_of, summary_json_of}
 use Rattle.covlist.specs.Table.{list_table_of}

@@ -1,7 +1,7 @@
 -- Values of the code, seen as plain data.
 use Rattle.covbook.specs.View.{op_data}
 use Rattle.covreport.specs.ChoiceView.{choice_data}
-use Rattle.covlimit.specs.LimitsView.{limits_data}
+use Rattle.covlist.specs.LimitsView.{limits_data}
 use Rattle.covrun.specs.Work.{QuestionData, Answer, ChosenReport, ChosenTotals, ChosenList, WorkData, TaskData, Serves, Collects, Checks, Combines, Shows}
 use Rattle.covrun.specs.Ending.{EndingData, BadWords, Unreadable, Stopped, Refuses, IsUnclean, with_shortfalls}
 use Rattle.covrun.specs.declared.question.Question.{Question}

@@ -2,8 +2,8 @@
 use Rattle.std.specs.List.{AllByRecursion}
 use Rattle.std.specs.Prelude.{◌≡◌, ◌⊎◌, ◌<◌, ◌≤◌, ℕ, if◌then◌else◌, List, [], Option, None, Some, length, take, drop}
 use Rattle.covdata.specs.Lawful.{IsGoodTest}
-use Rattle.covlimit.specs.Limits.{LimitsData, has_limit}
-use Rattle.covlimit.specs.Rates.{IsRate}
+use Rattle.covlist.specs.Limits.{LimitsData, has_limit}
+use Rattle.covlist.specs.Rates.{IsRate}
 use Rattle.covreport.specs.Choice.{ChoiceData, AllFiles, Filtered, max_patterns, max_pattern_bytes}
 use Rattle.covbook.specs.Op.{OpData, ReportOp, SummaryOp, ExtractOp, RemoveOp}
 use Rattle.covjobs.specs.Inputs.{InputData, TraceInput, Lcov2Input, GcovInput}
@@ -73,7 +73,7 @@ abbrev pub chosen_or_all : Option ChoiceData → ChoiceData
 chosen_or_all None = AllFiles
 chosen_or_all (Some choice) = choice
 
--- the words of the limits, as covlimit has them
+-- the words of the limits, as covlist has them
 abbrev pub limits_of : Limits → LimitsData
 limits_of limits = record { lines = limits.lines; functions = limits.functions; branches = limits.branches }
 

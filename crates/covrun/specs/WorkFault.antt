@@ -10,7 +10,7 @@ use Rattle.covsession.specs.declared.session.fault.SessionFault.TheVariants as f
 use Rattle.covrun.specs.Ending.{EndingData, BadWords, Stopped}
 use Rattle.covcommand.specs.declared.asked.SourceFilter.{SourceFilter}
 use Rattle.covrun.specs.Work.{AreRefused, IsFilterFault, IsLimitFault, IsPatternFault, IsRuleFault, IsTestFault}
-use Rattle.covlimit.specs.Limits.{LimitsData}
+use Rattle.covlist.specs.Limits.{LimitsData}
 
 abbrev pub of_pattern : PatternFault → WorkFault
 of_pattern patterns.TooMany = Words arguments.TooMany

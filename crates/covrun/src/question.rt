@@ -3,7 +3,7 @@
 ghost use Rattle.std.specs.Prelude.{◌≡◌, ◌++◌, [], ◌∷◌, IfOk};
 ghost use Rattle.covreport.specs.ChoiceView.{choice_data};
 ghost use Rattle.covtable.specs.Totals.{AreTotals};
-ghost use Rattle.covlimit.specs.LimitsView.{limits_data};
+ghost use Rattle.covlist.specs.LimitsView.{limits_data};
 ghost use Rattle.covbook.specs.Op.{SummaryOp};
 ghost use Rattle.covbook.specs.Step.{next_entry};
 ghost use Rattle.covrun.specs.Ending.{asked_text, totals_text as totals_text_of};
@@ -14,8 +14,7 @@ use crate::text_fault::TextFault;
 use covbook::Op;
 use covcommand::TotalsForm;
 use covdata::{Bytes, Memory};
-use covlimit::{Limits, shortfall_lines};
-use covlist::{list_json, list_table, summary_json};
+use covlist::{Limits, list_json, list_table, shortfall_lines, summary_json};
 use covreport::{Choice, Printing, Table, chosen_totals, summary_text};
 use covtable::{FileTotals, Totals};
 use covworkers::CollectedBook;
@@ -47,7 +46,7 @@ impl Question {
     ghost use Rattle.covbook.specs.Op.{ReportOp, SummaryOp};
     ghost use Rattle.covbook.specs.Step.{next_entry};
     ghost use Rattle.covbook.specs.Texts.{IsText};
-    ghost use Rattle.covlimit.specs.LimitsView.{limits_data};
+    ghost use Rattle.covlist.specs.LimitsView.{limits_data};
     ghost use Rattle.covtable.specs.ValuesView.{file_totals_data};
     ghost use Rattle.covrun.specs.Ending.{asked_shortfalls, asked_text};
     ghost use Rattle.covrun.specs.Strict.{asked_patterns, unmatched_line};

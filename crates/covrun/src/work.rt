@@ -8,7 +8,7 @@ use covcommand::{
     Strictness, TextFormat, TextSize, TotalsForm,
 };
 use covdata::{Bytes, Memory, good_test};
-use covlimit::{Limits, Rate};
+use covlist::{Limits, Rate};
 use covpages::is_source_rule;
 use covreport::{Choice, PatternFault, Patterns};
 use std::alloc::{AllocError, Global};
@@ -129,7 +129,7 @@ ghost use Rattle.covdata.specs.Lawful.{IsGoodTest};
 ghost use Rattle.covpages.specs.Sources.{AreRules};
 ghost use Rattle.covreport.specs.ChoiceView.{choice_data};
 ghost use Rattle.covrun.specs.View.{question_data, task_data};
-ghost use Rattle.covlimit.specs.LimitsView.{limits_data};
+ghost use Rattle.covlist.specs.LimitsView.{limits_data};
 ghost use Rattle.covbook.specs.Op.{ExtractOp, RemoveOp, ReportOp};
 ghost use Rattle.covrun.specs.declared.work.FileFormat.TheVariants.{GcovOutput};
 ghost use Rattle.covrun.specs.Work.{Answer, filtering, choice_of, limits_of, checked_as as checked_as_of, task_of, tracefiles as tracefiles_of, ArePatterns, AreRates, AreTaken, Checks, Collects, IsFilter, IsRateIfAny};

@@ -1,6 +1,6 @@
 use Rattle.std.proofs.Common.{◌∙◌, ap}
-use Rattle.covlimit.specs.Limits.{shortfalls}
-use Rattle.covlimit.specs.LimitsView.{limits_data}
+use Rattle.covlist.specs.Limits.{shortfalls}
+use Rattle.covlist.specs.LimitsView.{limits_data}
 use Rattle.covcombine.proofs.Endings.{texts_so}
 use Rattle.covcombine.proofs.ending.texts_of.Goals as goal
 

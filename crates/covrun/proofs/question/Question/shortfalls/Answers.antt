@@ -1,6 +1,6 @@
 use Rattle.std.proofs.Common.{ap, ◌∙◌}
-use Rattle.covlimit.specs.Limits.{shortfalls}
-use Rattle.covlimit.specs.LimitsView.{limits_data}
+use Rattle.covlist.specs.Limits.{shortfalls}
+use Rattle.covlist.specs.LimitsView.{limits_data}
 use Rattle.covtable.specs.Shown.{ShownData}
 use Rattle.covreport.specs.ChoiceView.{choice_data}
 use Rattle.covrun.proofs.Endings.{text_then, totals_are_asked}

@@ -6,7 +6,7 @@ use Rattle.std.specs.Char.{is_ascii_digit}
 use Rattle.std.specs.List.{list_all}
 use Rattle.std.specs.Str.{all_ascii_digits}
 use Rattle.std.specs.Str.Parse.{AllDigits}
-use Rattle.covlimit.specs.Cuts.{are_lengths, is_well_formed}
+use Rattle.covlist.specs.Cuts.{are_lengths, is_well_formed}
 
 same_test : (digits : List ℕ) → list_all is_ascii_digit digits ≡ all_ascii_digits digits
 same_test [] = refl

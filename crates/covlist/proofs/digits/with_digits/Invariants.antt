@@ -1,7 +1,7 @@
 use Rattle.std.proofs.Common.{◌≡◌, length}
 use Rattle.std.specs.Str.Parse.{digits_value_after}
-use Rattle.covlimit.specs.Cuts.{HasRoom}
-use Rattle.covlimit.proofs.digits.with_digits.Given as goal
+use Rattle.covlist.specs.Cuts.{HasRoom}
+use Rattle.covlist.proofs.digits.with_digits.Given as goal
 
 -- the digits that are left can follow the value so far, and give what all digits give
 abbrev pub invariant-loop-rest : goal.invariant-loop-rest

@@ -1,7 +1,7 @@
 //! Prints the lines about kinds of points below their thresholds.
 
 ghost use Rattle.std.specs.Prelude.{◌≡◌, ◌++◌, [], OnOk, IsOk};
-ghost use Rattle.covlimit.specs.Shortfalls.{numbers_text, shortfall, shortfall_line};
+ghost use Rattle.covlist.specs.Shortfalls.{numbers_text, shortfall, shortfall_line};
 
 use crate::rate::Rate;
 use covdata::{Bytes, Memory};

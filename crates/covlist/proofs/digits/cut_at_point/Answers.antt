@@ -1,7 +1,7 @@
 use Rattle.std.proofs.Common.{ℕ, List, ◌≡◌, ◌-◌, ◌≤◌, length, take, sym, subst}
-use Rattle.covlimit.specs.Rates.{whole_of}
-use Rattle.covlimit.proofs.Parts.{rest_fits, whole_taken, part_first, part_missing}
-use Rattle.covlimit.proofs.digits.cut_at_point.Goals as goal
+use Rattle.covlist.specs.Rates.{whole_of}
+use Rattle.covlist.proofs.Parts.{rest_fits, whole_taken, part_first, part_missing}
+use Rattle.covlist.proofs.digits.cut_at_point.Goals as goal
 
 pub slice_bounds-whole-count : goal.slice_bounds-whole-count
 slice_bounds-whole-count c = subst (λ (t : List ℕ). length t ≤ length c.args.word.now) (sym c.from_point-rest.ensures) (rest_fits c.args.word.now)

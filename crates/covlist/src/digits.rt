@@ -4,8 +4,8 @@ ghost use Rattle.std.specs.Prelude.{◌≡◌, ◌↔◌, ◌+◌, ◌-◌, ◌*
 ghost use Rattle.std.specs.Char.{digit_value, is_ascii_digit};
 ghost use Rattle.std.specs.List.{list_all};
 ghost use Rattle.std.specs.Str.Parse.{digits_value, digits_value_after};
-ghost use Rattle.covlimit.specs.Rates.{whole_of, part_of, millionths, IsRate};
-ghost use Rattle.covlimit.specs.Cuts.{from_point, are_lengths, is_well_formed, HasRoom};
+ghost use Rattle.covlist.specs.Rates.{whole_of, part_of, millionths, IsRate};
+ghost use Rattle.covlist.specs.Cuts.{from_point, are_lengths, is_well_formed, HasRoom};
 
 /// The maximum number of digits before the `.` of a rate.
 const MOST_WHOLE_DIGITS: usize = 3;

@@ -5,8 +5,8 @@ use Rattle.std.proofs.Math.Seq.{take-length}
 use Rattle.std.specs.Char.{digit_value}
 use Rattle.std.specs.Str.Parse.{digits_value, digits_value_after}
 use Rattle.std.proofs.lemmas.Int.Digits.{digits_value-lt}
-use Rattle.covlimit.specs.Cuts.{HasRoom}
-use Rattle.covlimit.proofs.Formed.{IsFormed}
+use Rattle.covlist.specs.Cuts.{HasRoom}
+use Rattle.covlist.proofs.Formed.{IsFormed}
 
 -- where there is room for a digit and those after it, there is room for those after it once the digit is appended
 room_after : (n digit most : ℕ) (rest : List ℕ) → digit < 10 → (n + 1) * 10 ^ suc (length rest) ≤ most → (n * 10 + digit + 1) * 10 ^ length rest ≤ most

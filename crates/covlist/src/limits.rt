@@ -1,8 +1,8 @@
 //! The thresholds of a run, and lines about totals below their thresholds.
 
 ghost use Rattle.std.specs.Prelude.{◌≡◌, [], IfOk, IsOk};
-ghost use Rattle.covlimit.specs.Limits.{has_limit, shortfalls};
-ghost use Rattle.covlimit.specs.LimitsView.{limits_data};
+ghost use Rattle.covlist.specs.Limits.{has_limit, shortfalls};
+ghost use Rattle.covlist.specs.LimitsView.{limits_data};
 
 use crate::rate::Rate;
 use crate::shortfalls::put_shortfall;

@@ -1,9 +1,10 @@
-//! Tests of rates and totals. The expected results were worked out by hand from what a rate means.
+//! Thresholds: which arguments are rates, and the lines about totals below their thresholds.
 //!
 //! Each example is a line of text, so that examples add nothing to the proof of these tests.
 
+use super::{check_bytes, made};
 use covdata::Bytes;
-use covlimit::{Limits, Rate, shortfall_lines};
+use covlist::{Limits, Rate, shortfall_lines};
 use covtable::Totals;
 use std::process::Abort;
 use std::test::*;
@@ -66,10 +67,7 @@ fn check_words(rt: &(impl Abort + AllocGlobal), words: &str, wanted: bool) {
 
 /// Parses a rate. Returns `None` if `word` isn't a rate.
 fn rate(rt: &(impl Abort + AllocGlobal), word: &str) -> Option<Rate> {
-    match Bytes::of(rt.alloc(), word.as_bytes()) {
-        Ok(word) => Rate::of(word),
-        Err(_refused) => panic!(rt; "out of memory"),
-    }
+    Rate::of(made(rt, Bytes::of(rt.alloc(), word.as_bytes())))
 }
 
 /// Each example has a rate, the numbers of lines hit and found, and after ` => ` whether these lines reach the rate or are below
@@ -165,10 +163,7 @@ fn told(
         functions,
         branches,
     };
-    match shortfall_lines(rt.alloc(), &limits, totals) {
-        Ok(told) => told,
-        Err(_refused) => panic!(rt; "out of memory"),
-    }
+    made(rt, shortfall_lines(rt.alloc(), &limits, totals))
 }
 
 /// The lines about totals below their thresholds, with thresholds of all three kinds, of some kinds and of none, and with
@@ -213,5 +208,5 @@ fn check_kinds(rt: &(impl Abort + AllocGlobal), words: [&str; 3], wanted: &str) 
         rate(rt, branches),
         &totals,
     );
-    assert_eq!(rt; told.get(), wanted.as_bytes());
+    check_bytes(rt, told.get(), wanted.as_bytes());
 }

@@ -3,8 +3,8 @@ use Rattle.std.proofs.Common.{◌≡◌, ℕ, ◌+◌, ◌-◌, ◌≤◌, ◌<�
 use Rattle.std.proofs.lemmas.Bool.{cases_Bool}
 use Rattle.std.proofs.lemmas.List.{length-append}
 use Rattle.std.proofs.Math.Seq.{take-append_seam, take-length}
-use Rattle.covlimit.specs.Rates.{point, whole_of, part_of}
-use Rattle.covlimit.specs.Cuts.{from_point}
+use Rattle.covlist.specs.Rates.{point, whole_of, part_of}
+use Rattle.covlist.specs.Cuts.{from_point}
 
 parts : (word : List ℕ) → word ≡ whole_of word ++ from_point word
 parts [] = refl

@@ -15,7 +15,7 @@ pub struct Rate<A: Allocator = Global> {
 
 impl<A: Allocator> Model for Rate<A> {
     ghost use Rattle.std.specs.Prelude.{List, ℕ, ◌≡◌};
-    ghost use Rattle.covlimit.specs.Rates.{IsRate, millionths as millionths_of};
+    ghost use Rattle.covlist.specs.Rates.{IsRate, millionths as millionths_of};
 
     ghost Value = { List ℕ };
 
@@ -26,8 +26,8 @@ impl<A: Allocator> Model for Rate<A> {
 
 impl<A: Allocator> Rate<A> {
     ghost use Rattle.std.specs.Prelude.{◌≡◌, ◌↔◌, IsSome, IfSome};
-    ghost use Rattle.covlimit.specs.Rates.{IsRate};
-    ghost use Rattle.covlimit.specs.Shortfalls.{is_below};
+    ghost use Rattle.covlist.specs.Rates.{IsRate};
+    ghost use Rattle.covlist.specs.Shortfalls.{is_below};
 
     /// Parses a rate: at most three digits, then nothing, or a `.` and at most six digits. A rate has at least one digit, and is at
     /// most 100. So `80`, `79.5`, `.5` and `80.` are rates; `-1`, `1e1`, `80%` and `101` aren't. Returns `None` if `word` isn't a

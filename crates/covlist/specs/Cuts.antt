@@ -3,7 +3,7 @@ use Rattle.std.specs.Prelude.{ℕ, ◌+◌, ◌*◌, ◌^◌, ◌≤◌, ◌==�
 use Rattle.std.specs.Char.{is_ascii_digit}
 use Rattle.std.specs.List.{list_all}
 use Rattle.std.specs.Str.Parse.{AllDigits}
-use Rattle.covlimit.specs.Rates.{point}
+use Rattle.covlist.specs.Rates.{point}
 
 -- the word from its first point on; it is empty if the word has none
 abbrev pub from_point : List ℕ → List ℕ

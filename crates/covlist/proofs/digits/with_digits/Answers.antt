@@ -1,8 +1,8 @@
 use Rattle.std.proofs.Common.{ℕ, ◌-◌, length, take, drop, ap, sym, subst, ◌∙◌}
 use Rattle.std.specs.Str.Parse.{digits_value_after}
-use Rattle.covlimit.specs.Cuts.{HasRoom}
-use Rattle.covlimit.proofs.Room.{one_step, none_left, few_at_end}
-use Rattle.covlimit.proofs.digits.with_digits.Goals as goal
+use Rattle.covlist.specs.Cuts.{HasRoom}
+use Rattle.covlist.proofs.Room.{one_step, none_left, few_at_end}
+use Rattle.covlist.proofs.digits.with_digits.Goals as goal
 
 pub with_digit-value-requires : goal.with_digit-value-requires
 with_digit-value-requires c =

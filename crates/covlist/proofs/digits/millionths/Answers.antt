@@ -1,9 +1,9 @@
 use Rattle.std.proofs.Common.{ℕ, ◌-◌, ◌*◌, ◌^◌, ◌<◌, length, ap, sym, subst, ◌∙◌}
 use Rattle.std.specs.Str.Parse.{digits_value_after}
-use Rattle.covlimit.specs.Cuts.{HasRoom}
-use Rattle.covlimit.proofs.Formed.{formed}
-use Rattle.covlimit.proofs.Room.{room_for_whole, room_for_part, after_append, product_fits}
-use Rattle.covlimit.proofs.digits.millionths.Goals as goal
+use Rattle.covlist.specs.Cuts.{HasRoom}
+use Rattle.covlist.proofs.Formed.{formed}
+use Rattle.covlist.proofs.Room.{room_for_whole, room_for_part, after_append, product_fits}
+use Rattle.covlist.proofs.digits.millionths.Goals as goal
 
 pub with_digits-requires : goal.with_digits-requires
 with_digits-requires c = room_for_whole c.args.whole.now c.args.part.now (formed c.args.whole.now c.args.part.now c.requires)

@@ -1,7 +1,7 @@
 -- The least rates of points hit that a call asks for, as plain data, and which of them totals fall short of.
 use Rattle.std.specs.Prelude.{ℕ, Bool, ◌||◌, List, ◌++◌, Option, is_some, codes}
 use Rattle.covtable.specs.declared.totals.Totals.{Totals}
-use Rattle.covlimit.specs.Shortfalls.{shortfall}
+use Rattle.covlist.specs.Shortfalls.{shortfall}
 
 -- the words of the rates: `None` for a kind of points for which no rate is asked for
 pub record LimitsData : Type 0 where

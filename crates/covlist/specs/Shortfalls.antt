@@ -1,7 +1,7 @@
 -- When points are below a rate, and the line that says so.
 use Rattle.std.specs.Prelude.{ℕ, ◌*◌, ◌==◌, nat_lt, Bool, ◌||◌, if◌then◌else◌, List, [], ◌∷◌, ◌++◌, Option, None, Some, codes, decimal}
 use Rattle.covdata.specs.Delimiters.{line_feed}
-use Rattle.covlimit.specs.Rates.{millionths, hundred_percent}
+use Rattle.covlist.specs.Rates.{millionths, hundred_percent}
 
 -- no point is found, or fewer are hit than the rate asks for: hit / found < rate, multiplied out
 abbrev pub is_below : List ℕ → ℕ → ℕ → Bool

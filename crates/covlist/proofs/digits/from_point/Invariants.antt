@@ -1,6 +1,6 @@
 use Rattle.std.proofs.Common.{◌≡◌, length}
-use Rattle.covlimit.specs.Cuts.{from_point}
-use Rattle.covlimit.proofs.digits.from_point.Given as goal
+use Rattle.covlist.specs.Cuts.{from_point}
+use Rattle.covlist.proofs.digits.from_point.Given as goal
 
 abbrev pub invariant-loop-rest : goal.invariant-loop-rest
 invariant-loop-rest l = from_point l.rest ≡ from_point l.word
