@@ -346,13 +346,7 @@ fn put_but_written(file: Option<&str>, pages: Option<&str>, lines: &mut Bytes) -
         (None, None) => Ok(()),
         (Some(name), None) => put_but(name.as_bytes(), lines),
         (None, Some(folder)) => put_but(folder.as_bytes(), lines),
-        (Some(name), Some(folder)) => {
-            lines.append(b", but ")?;
-            put_shown_name(name.as_bytes(), lines)?;
-            lines.append(b" and ")?;
-            put_shown_name(folder.as_bytes(), lines)?;
-            lines.append(b" are")
-        }
+        (Some(name), Some(folder)) => put_both(name.as_bytes(), folder.as_bytes(), lines),
     }
 }
 
@@ -363,6 +357,17 @@ fn put_but(name: &[u8], lines: &mut Bytes) -> Result<(), Memory>
     lines.append(b", but ")?;
     put_shown_name(name, lines)?;
     lines.append(b" is")
+}
+
+/// Appends that the file called `name` and the folder called `folder` were written before.
+fn put_both(name: &[u8], folder: &[u8], lines: &mut Bytes) -> Result<(), Memory>
+    ensures { OnOk result (lines.new ≡ lines.old ++ (codes ", but " ++ (shown_name name.now ++ (codes " and " ++ (shown_name folder.now ++ codes " are"))))) }
+{
+    lines.append(b", but ")?;
+    put_shown_name(name, lines)?;
+    lines.append(b" and ")?;
+    put_shown_name(folder, lines)?;
+    lines.append(b" are")
 }
 
 /// Appends why pages can't be written into the folder called `name`. If memory ran out, that is an error.

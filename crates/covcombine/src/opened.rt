@@ -1,6 +1,6 @@
 //! Opened tracefiles, and how far a file is read.
 
-ghost use Rattle.std.specs.Prelude.{◌≡◌, ◌≤◌, ◌++◌, ◌^◌, ℕ, List, Option, Result, length, option_map, IfOk, IfErr, OnOk};
+ghost use Rattle.std.specs.Prelude.{◌≡◌, ◌≤◌, ◌++◌, ◌^◌, List, Option, Result, length, option_map, IfOk, IfErr, OnOk};
 ghost use Rattle.covdata.specs.Row.{SubmissionData};
 ghost use Rattle.covdata.specs.declared.fault.ReadFault.{ReadFault as Fault};
 ghost use Rattle.covdata.specs.declared.version.LcovVersion.TheVariants.{Two};
