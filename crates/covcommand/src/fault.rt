@@ -1,5 +1,6 @@
 //! The errors of parsing a command line.
 
+use crate::advice::advice;
 use clap::error::{Error as LineError, ErrorKind};
 use covdata::Memory;
 use std::alloc::{AllocError, AllocFailed, Global};
@@ -23,9 +24,12 @@ pub enum CommandFault {
 }
 
 impl CommandFault {
-    ghost use Rattle.std.specs.Prelude.{◌≡◌};
+    ghost use Rattle.std.specs.Prelude.{◌≡◌, map};
+    ghost use Rattle.std.specs.String.{string_bytes};
+    ghost use Rattle.covcommand.specs.Advice.{IsAdvised};
     ghost use Rattle.covcommand.specs.Fault.{fault_number, fault_status, Tells};
     ghost use Rattle.clap.specs.Values.{kind_of};
+    ghost use Rattle.clap.specs.declared.error.kind.ErrorKind.{ErrorKind};
 
     /// The number of the error.
     pub fn number(&self) -> u32
@@ -71,6 +75,20 @@ impl CommandFault {
             ErrorKind::DisplayVersion => CommandFault::Version(text),
             ErrorKind::OutOfMemory => CommandFault::Memory,
             _ => CommandFault::Line(text),
+        }
+    }
+
+    /// This error of the command line `words`. The text of `Line` gets the advice for the words at its end, or the error is `Memory`.
+    pub(crate) fn advised(self, words: &[String]) -> CommandFault
+        ensures tells { (kind : ErrorKind) → Tells kind self → Tells kind result }
+        ensures advised { IsAdvised (map string_bytes words.now) result }
+    {
+        let CommandFault::Line(mut text) = self else {
+            return self;
+        };
+        match text.push_str(advice(words)) {
+            Ok(()) => CommandFault::Line(text),
+            Err(_refused) => CommandFault::Memory,
         }
     }
 }

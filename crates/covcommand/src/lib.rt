@@ -17,6 +17,7 @@
 //! ```
 #![tactic(auto)]
 
+mod advice;
 mod asked;
 mod combining;
 mod described;

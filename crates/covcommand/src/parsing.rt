@@ -6,6 +6,7 @@ ghost use Rattle.clap.specs.Words.{rows_of, found_of, subcommand_of, takes, faul
 ghost use Rattle.covcommand.specs.CommandLine.{covcollect};
 ghost use Rattle.covcommand.specs.Asked.{AreLimitsOf, ArePageTextsOf, ArePagesOf, AsksFor, AsksToCombine, GoesTo, HasSize, HasStrictness, IsFilterOf, IsFormOf, IsFormatOf, IsInBounds, IsNamesEndOf, IsNumberIfAny, IsNumberOf, IsOutputOf, IsOverviewOf, IsPathIfAny, IsProgressOf, IsSizeOf, IsStrictnessOf, IsTextIfAny, IsUpToIfAny, IsVersionOf, rows_met, tracefile_and_patterns, values_of};
 ghost use Rattle.covcommand.specs.Found.{Fits, HasCombining, HasFilter, HasFlag, HasFolder, HasJobs, HasNumberIfAny, HasSome, HasTest, TellsFlags};
+ghost use Rattle.covcommand.specs.Advice.{IsAdvised};
 ghost use Rattle.covcommand.specs.Fault.{IsFaultAmong};
 ghost use Rattle.covcommand.specs.declared.fault.CommandFault.TheVariants as faults;
 
@@ -23,7 +24,8 @@ use std::alloc::Global;
 /// Parses the arguments `words`. The first one is the program's name.
 ///
 /// Errors: `Help` or `Version` if the user requested it, `Line` if the command line is invalid, each with the text to print; and
-/// `Memory`. `Memory` is the only error if clap accepts the arguments.
+/// `Memory`. `Memory` is the only error if clap accepts the arguments. The text of `Line` ends with the call to write instead if an
+/// argument is one of lcov's options.
 pub fn command(alloc: Global, words: &[String]) -> Result<Asked, CommandFault>
     ensures asks { IfOk result (λ asked. AsksFor (subcommand_of covcollect (map string_bytes words.now)) asked.command) }
     ensures strictness { IfOk result (λ asked. HasStrictness (rows_met (subcommand_of covcollect (map string_bytes words.now))) asked.command asked.strictness) }
@@ -34,10 +36,11 @@ pub fn command(alloc: Global, words: &[String]) -> Result<Asked, CommandFault>
     ensures takes { takes covcollect (map string_bytes words.now) ≡ true
         → IfErr result (λ f. f ≡ faults.Memory) }
     ensures told { IfErr result (IsFaultAmong (fault_of covcollect (map string_bytes words.now))) }
+    ensures advised { IfErr result (IsAdvised (map string_bytes words.now)) }
 {
     let matches = match described(alloc)?.try_get_matches_from(words) {
         Ok(matches) => matches,
-        Err(error) => return Err(CommandFault::of(alloc, &error)),
+        Err(error) => return Err(CommandFault::of(alloc, &error).advised(words)),
     };
     match matches.subcommand() {
         Some((name, found)) => asked_from(alloc, name, found),

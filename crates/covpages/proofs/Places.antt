@@ -1,12 +1,9 @@
--- Where source files lie, byte by byte.
-use Rattle.std.proofs.Common.{◌≡◌, ℕ, suc, ◌+◌, ◌-◌, ◌<◌, ◌≤◌, Bool, true, false, cond, ◌&&◌, ◌||◌, eqb, List, [], ◌∷◌, ◌++◌, length, take, drop, get_or, Option, None, Some, refl, sym, ap, ◌∙◌, append_assoc, append-nil, arith}
+-- The words of rules, byte by byte.
+use Rattle.std.proofs.Common.{◌≡◌, ℕ, suc, ◌<◌, false, eqb, List, [], ◌∷◌, ◌++◌, length, get_or, None, Some, refl, sym, ap, ◌∙◌, append_assoc, append-nil, arith}
 use Rattle.std.specs.Prelude.{◌≢◌}
-use Rattle.std.proofs.lemmas.Bool.{cond-true, cond-false, false≢true}
+use Rattle.std.proofs.lemmas.Bool.{cond-false}
 use Rattle.std.proofs.lemmas.Bool.Decides.{nat_tests}
-use lib.Pointwise.{pointwise}
-use Rattle.covpages.specs.Sources.{ends_at_slash, is_apart, rest_after, rest_if_apart, rest_under, rule_after, rule_of}
-
--- ---- a rule's word
+use Rattle.covpages.specs.Sources.{rule_after, rule_of}
 
 abbrev HasNone : List ℕ → Type 0
 HasNone xs = (i : ℕ) → i < length xs → get_or xs i 0 ≢ 61
@@ -31,51 +28,3 @@ rule_is word xs ys is none = sym (ap rule_of is ∙ rule_found [] xs ys none)
 
 pub no_rule : (word : List ℕ) → HasNone word → None ≡ rule_of word
 no_rule word none = sym (rule_missing [] word none)
-
--- ---- what follows the beginning of a path
-
-both : (s t : Bool) → (s && t) ≡ true → (s ≡ true) × (t ≡ true)
-both true t h = (refl, h)
-both false t h = absurd (false≢true h)
-
-eqb_back : (a b : ℕ) (r : Bool) → eqb b a ≡ r → eqb a b ≡ r
-eqb_back a b true h = grind (arith, nat_tests)
-eqb_back a b false h = grind (arith, nat_tests)
-
-stripped : (old path : List ℕ) → pointwise eqb (take (length old) path) old ≡ true → rest_after old path ≡ Some (drop (length old) path)
-stripped [] path h = refl
-stripped (a ∷ old) [] h = absurd (false≢true h)
-stripped (a ∷ old) (b ∷ path) h =
-    let parts = both (eqb b a) (pointwise eqb (take (length old) path) old) h in
-    cond-true (eqb a b) (rest_after old path) None (eqb_back a b true parts.0) ∙ stripped old path parts.1
-
-not_stripped : (old path : List ℕ) → pointwise eqb (take (length old) path) old ≡ false → rest_after old path ≡ None
-not_stripped [] path h = absurd (false≢true (sym h))
-not_stripped (a ∷ old) [] h = refl
-not_stripped (a ∷ old) (b ∷ path) h = by (eqb b a) refl (λ more. not_stripped old path more)
-  where
-    by : (r : Bool) → eqb b a ≡ r → (pointwise eqb (take (length old) path) old ≡ false → rest_after old path ≡ None) → rest_after (a ∷ old) (b ∷ path) ≡ None
-    by true is more =
-        cond-true (eqb a b) (rest_after old path) None (eqb_back a b true is)
-        ∙ more (sym (ap (λ (r : Bool). r && pointwise eqb (take (length old) path) old) is) ∙ h)
-    by false is more = cond-false (eqb a b) (rest_after old path) None (eqb_back a b false is)
-
-pub no_rest : (old path : List ℕ) → pointwise eqb (take (length old) path) old ≡ false → None ≡ rest_under old path
-no_rest old path h = sym (ap (rest_if_apart old) (not_stripped old path h))
-
-module _ (old path rest : List ℕ) (begins : pointwise eqb (take (length old) path) old ≡ true) (is : rest ≡ drop (length old) path) where
-  found : rest_after old path ≡ Some rest
-  found = stripped old path begins ∙ ap Some (sym is)
-
-  pub rest_apart : (is_apart rest || ends_at_slash old) ≡ true → Some rest ≡ rest_under old path
-  rest_apart apart = sym (ap (rest_if_apart old) found ∙ cond-true (is_apart rest || ends_at_slash old) (Some rest) None apart)
-
-  pub rest_within : (is_apart rest || ends_at_slash old) ≡ false → None ≡ rest_under old path
-  rest_within within = sym (ap (rest_if_apart old) found ∙ cond-false (is_apart rest || ends_at_slash old) (Some rest) None within)
-
--- ---- slashes at an end
-
-pub slash_last : (front : List ℕ) (b : ℕ) → ends_at_slash (front ++ b ∷ []) ≡ eqb b 47
-slash_last [] b = refl
-slash_last (a ∷ []) b = refl
-slash_last (a ∷ c ∷ front) b = slash_last (c ∷ front) b

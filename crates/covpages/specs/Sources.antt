@@ -1,5 +1,5 @@
 -- Where source files lie, and which of their texts pages show.
-use Rattle.std.specs.Prelude.{◌≡◌, ◌≤◌, ℕ, Bool, ◌==◌, ◌||◌, nat_le, if◌then◌else◌, Option, None, Some, List, [], ◌∷◌, ◌++◌, length, codes, map, option_map, is_some, IsTrue, false, true, ◌⊎◌}
+use Rattle.std.specs.Prelude.{◌≡◌, ℕ, Bool, ◌==◌, nat_le, if◌then◌else◌, Option, None, Some, List, [], ◌∷◌, ◌++◌, length, codes, map, option_map, is_some, IsTrue, ◌⊎◌}
 use Rattle.std.specs.List.{AllByRecursion}
 use Rattle.std.specs.Str.{IsUtf8}
 use Rattle.covcommand.specs.declared.asked.Strictness.{Strictness}
@@ -7,6 +7,7 @@ use Rattle.covcommand.specs.declared.asked.Strictness.TheVariants.{Lenient, Stri
 use Rattle.covhtml.specs.Rows.{RowData}
 use Rattle.covline.specs.Lines.{lines_of}
 use Rattle.covlist.specs.Shown.{shown_name}
+use Rattle.covpaths.specs.Paths.{rest_under}
 use Rattle.covread.specs.Outcome.{max_bytes}
 use Rattle.covsession.specs.Session.{said}
 use Rattle.covworld.specs.Folder.{FolderData, IsTextOf}
@@ -21,29 +22,6 @@ rule_after front (b ∷ word) = if b == 61 then Some (front, word) else rule_aft
 -- the rule that a word gives: source files under the first path lie under the second one
 abbrev pub rule_of : (word : List ℕ) → Option (List ℕ × List ℕ)
 rule_of word = rule_after [] word
-
-abbrev pub ends_at_slash : List ℕ → Bool
-ends_at_slash [] = false
-ends_at_slash (b ∷ []) = b == 47
-ends_at_slash (a ∷ b ∷ bytes) = ends_at_slash (b ∷ bytes)
-
-abbrev pub is_apart : (rest : List ℕ) → Bool
-is_apart [] = true
-is_apart (b ∷ rest) = b == 47
-
--- what follows a beginning in a path, if the path begins so
-abbrev pub rest_after : (old path : List ℕ) → Option (List ℕ)
-rest_after [] path = Some path
-rest_after (a ∷ old) [] = None
-rest_after (a ∷ old) (b ∷ path) = if a == b then rest_after old path else None
-
-abbrev pub rest_if_apart : (old : List ℕ) → Option (List ℕ) → Option (List ℕ)
-rest_if_apart old None = None
-rest_if_apart old (Some rest) = if is_apart rest || ends_at_slash old then Some rest else None
-
--- what follows `old` in a path, if `old` is the path or ends at a slash in it
-abbrev pub rest_under : (old path : List ℕ) → Option (List ℕ)
-rest_under old path = rest_if_apart old (rest_after old path)
 
 -- where a source file lies by a rule, if the rule fits its path
 abbrev pub located_in : Option (List ℕ × List ℕ) → (path : List ℕ) → Option (List ℕ)

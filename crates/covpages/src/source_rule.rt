@@ -1,10 +1,11 @@
 //! Where source files lie.
 
-ghost use Rattle.std.specs.Prelude.{◌≡◌, ◌||◌, IfOk, is_some, map, option_map};
+ghost use Rattle.std.specs.Prelude.{◌≡◌, IfOk, is_some, map, option_map};
 ghost use Rattle.std.specs.String.{string_bytes};
-ghost use Rattle.covpages.specs.Sources.{ends_at_slash as ends_with_slash, is_apart as is_apart_rest, located_by, located_in, rest_under, rule_of, rules_of};
+ghost use Rattle.covpages.specs.Sources.{located_by, located_in, rule_of, rules_of};
 
 use covdata::{Bytes, Memory};
+use covpaths::rest_under;
 use std::alloc::Global;
 
 /// A rule for where source files lie: those under `old` lie under `new`.
@@ -27,20 +28,6 @@ impl<'a> SourceRule<'a> {
             new: new.as_bytes(),
         })
     }
-
-    /// What follows `old` in `path`, if `old` is the path or ends at a slash in it.
-    fn rest_of<'p>(&self, path: &'p [u8]) -> Option<&'p [u8]>
-        ensures { option_map (λ rest. rest.now) result ≡ rest_under self.now.old.now path.now }
-    {
-        let Some(rest) = path.strip_prefix(self.old) else {
-            return None;
-        };
-        if are_apart(self.old, rest) {
-            Some(rest)
-        } else {
-            None
-        }
-    }
 }
 
 /// Whether `word` is a rule for where source files lie.
@@ -48,33 +35,6 @@ pub fn is_source_rule(word: &str) -> bool
     ensures { result ≡ is_some (rule_of word.now) }
 {
     SourceRule::of(word).is_some()
-}
-
-/// Whether a name ends between `old` and `rest`, which make up a path.
-fn are_apart(old: &[u8], rest: &[u8]) -> bool
-    ensures { result ≡ (is_apart_rest rest.now || ends_with_slash old.now) }
-{
-    is_apart(rest) || ends_at_slash(old)
-}
-
-/// Whether `rest` is nothing, or begins with a slash.
-fn is_apart(rest: &[u8]) -> bool
-    ensures { result ≡ is_apart_rest rest.now }
-{
-    match rest.split_first() {
-        Some((byte, _)) => *byte == b'/',
-        None => true,
-    }
-}
-
-/// Whether the last byte is a slash.
-fn ends_at_slash(old: &[u8]) -> bool
-    ensures { result ≡ ends_with_slash old.now }
-{
-    match old.split_last() {
-        Some((byte, _)) => *byte == b'/',
-        None => false,
-    }
 }
 
 /// Where the source file of this `path` lies, by the first rule that fits. `words` are rules, as `SourceRule::of` takes them. Any other
@@ -97,7 +57,7 @@ fn located_by_word(alloc: Global, word: &str, path: &[u8]) -> Result<Option<Byte
     let Some(rule) = SourceRule::of(word) else {
         return Ok(None);
     };
-    let Some(rest) = rule.rest_of(path) else {
+    let Some(rest) = rest_under(rule.old, path) else {
         return Ok(None);
     };
     let mut name = Bytes::of(alloc, rule.new)?;

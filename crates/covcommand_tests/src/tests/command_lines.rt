@@ -55,11 +55,19 @@ covcollect combine --include '*.c' --exclude '/usr/*' --fail-under-lines 80 a.in
 covcollect combine -- -q => combine [-q] large
 covcollect combine --html dir --title t --date=d --source /a=/b --source /c=/d a.info => combine html[dir] title(t) date(d) source[/a=/b] source[/c=/d] [a.info] large
 covcollect combine --title t a.info => combine title(t) [a.info] large
+covcollect combine b.info --html=dir --date d --exclude x --source a=b -j 2 a.info => combine jobs(2) -[x] html[dir] date(d) source[a=b] [b.info] [a.info] large
+covcollect combine --html= a.info => combine html[] [a.info] large
+covcollect combine -- --html dir => combine [--html] [dir] large
 covcollect combine -j 0 a.info => 2 2 error: invalid value '0' for '--jobs <N>': 0 is not in 1..=64
 covcollect combine --expect 0 a.info => 2 2 error: invalid value '0' for '--expect <N>': 0 is not in 1..=1048576
 covcollect combine --expect 1048577 a.info => 2 2 error: invalid value '1048577' for '--expect <N>': 1048577 is not in 1..=1048576
 covcollect combine -q -q a.info => 2 2 error: the argument '--quiet' cannot be used multiple times
 covcollect combine --lcov2 a.info => 2 2 error: unexpected argument '--lcov2' found
+covcollect combine --html a --html a a.info => 2 2 error: the argument '--html <DIR>' cannot be used multiple times
+covcollect combine a.info --html => 2 2 error: a value is required for '--html <DIR>' but none was supplied
+covcollect combine --title a --title b a.info => 2 2 error: the argument '--title <TEXT>' cannot be used multiple times
+covcollect merge --html dir a.info => 2 2 error: unexpected argument '--html' found
+covcollect html --html dir -o out a.info => 2 2 error: unexpected argument '--html' found
 
 # Pages: the folder has to be named.
 covcollect html -o out a.info => html (1 1) >[out] [a.info]

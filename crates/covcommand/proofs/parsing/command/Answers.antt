@@ -16,14 +16,14 @@ use Rattle.covcommand.proofs.parsing.command.Goals as goal
 
 pub returns-in-Err-clause-takes : goal.returns-in-Err-clause-takes
 returns-in-Err-clause-takes c taken =
-    told_memory _ _ c.of.ensures (c.in-Err.ensures.passes (ap (λ (a : App). takes a (map string_bytes c.args.words.now)) c.in_ok-described.ensures ∙ taken))
+    told_memory _ _ (c.advised.ensures.tells _ c.of.ensures) (c.in-Err.ensures.passes (ap (λ (a : App). takes a (map string_bytes c.args.words.now)) c.in_ok-described.ensures ∙ taken))
 
 pub returns-in-Err-clause-told : goal.returns-in-Err-clause-told
 returns-in-Err-clause-told c =
     let words = map string_bytes c.args.words.now in
     let has = c.in-Err.ensures.kinds (ap is_simple_and_free c.in_ok-described.ensures ∙ simple_and_free) in
     let among = subst (λ (a : App). HasKind (fault_of a words) c.in-Err.error) c.in_ok-described.ensures has in
-    told_of _ (fault_of covcollect words) _ c.of.ensures among
+    told_of _ (fault_of covcollect words) _ (c.advised.ensures.tells _ c.of.ensures) among
 
 pub returns-clause-fits : goal.returns-clause-fits
 returns-clause-fits c =
