@@ -15,7 +15,7 @@ const HELPS: [(&str, usize); 10] = [
     ("covcollect remove --help", 3),
     ("covcollect gcov --help", 1),
     ("covcollect check --help", 4),
-    ("covcollect combine --help", 5),
+    ("covcollect combine --help", 6),
     ("covcollect html --help", 3),
 ];
 
