@@ -4,7 +4,7 @@ use Rattle.std.specs.Io.KnownBytes.{Appends}
 use Rattle.std.specs.String.{string_bytes}
 use Rattle.covcommand.specs.declared.asked.CombineOptions.{CombineOptions}
 use Rattle.covcommand.specs.declared.asked.Strictness.{Strictness}
-use Rattle.covpages.specs.Pages.{PagesWorkData, IsPagesFault, IsWritten as ArePagesWritten}
+use Rattle.covpages.specs.Pages.{PagesWorkData, AreUnwritten, IsPagesFault, IsWritten as ArePagesWritten, pages_status}
 use Rattle.covpages.specs.declared.fault.PagesFault.{PagesFault}
 use Rattle.covpages.specs.declared.fault.PagesFault.TheVariants as pages_faults
 use Rattle.covsession.specs.Fault.{HasBegun}
@@ -20,7 +20,7 @@ use Rattle.covcombine.specs.Combine.{EndingData, Fails, Gives, GivenData, PagesD
 use Rattle.covcombine.specs.Combined.{AreGiven, AreGivenIfRoom, AreGivenWith, Ends, HasNoPages, HasPages, IsCombineCall, IsListFault, IsLongAt, IsPrinted, IsReported, IsUnfiled, IsUnreadAt, MayEndWith, MayRead, MayReadAt, StopsEarly, StopsUnnamed, Tells, given_status, out_of_memory, work_of_pages}
 use Rattle.covcombine.specs.FileNames.{AreNamesOf, InFile, InInput, IsListRead, ListPlace, end_byte, place_of}
 use Rattle.covcombine.specs.ListSteps.{IsEarlyEnd, IsNamesStop}
-use Rattle.covcombine.specs.Messages.{cut_line}
+use Rattle.covcombine.specs.Messages.{cut_line, pages_lines}
 use Rattle.covcombine.specs.Options.{CombineData}
 use Rattle.covcombine.specs.Steps.{CanReport, IsPagesFaultTold, IsWorkFault}
 use Rattle.covcombine.specs.declared.call_fault.CallFault.{CallFault}
@@ -92,7 +92,7 @@ pages_stand folder file pages texts warnings more all status old new between wri
     (more, between, written, subst (λ (w : List ℕ). AreGivenIfRoom file (Some pages.folder) texts w status (record old { files = between }) new) same gives)
 
 failed_same : (work : PagesWorkData) (sections : List SectionData) (files after : OutputFilesData) (more : List ℕ) → ArePagesWritten work sections files after more → after.failed ≡ files.failed
-failed_same work sections files after more (sources, are, told, taken, finished, named, begun, failed) = failed
+failed_same work sections files after more (sources, are, told, taken, (finished, named, begun, failed)) = failed
 
 -- after the pages an ending can still be reported
 pub can_still : (work : PagesWorkData) (sections : List SectionData) (old : WorldData) (after : OutputFilesData) (more : List ℕ) → ArePagesWritten work sections old.files after more
@@ -108,12 +108,18 @@ fault_of_told : (work : PagesWorkData) (sections : List SectionData) (fault told
 fault_of_told work sections fault told (inl is) comes = subst (λ (f : PagesFault). IsPagesFault work sections f) (sym is) comes
 fault_of_told work sections fault told (inr is) comes = subst (λ (f : PagesFault). IsPagesFault work sections f) (sym is) tt
 
+-- how it ends if the folder isn't written, by the files and the streams before and after
+abbrev EndsUnwritten : FolderData → PagesData → (warnings : List ℕ) → (status : ℕ) → (files after : OutputFilesData) → SinksData → SinksData → Type 0
+EndsUnwritten folder pages warnings status files after old new =
+    (fault : PagesFault) × AreUnwritten (work_of_pages folder pages) pages.sections fault files after × (after.begun ≡ files.begun)
+    × (status ≡ pages_status fault) × Withholds old new × Complains (pages_lines warnings pages.folder fault) old new
+
 -- the folder isn't written, and that is told, or that memory ran out
-pub no_pages_told : (folder : FolderData) (pages : PagesData) (warnings : List ℕ) (status : ℕ) (old new : WorldData) (fault : PagesFault)
-    → IsPagesFault (work_of_pages folder pages) pages.sections fault → new.files.finished ≡ old.files.finished → new.files.names ≡ old.files.names → new.files.begun ≡ old.files.begun
-    → ((told : PagesFault) × ((told ≡ fault) ⊎ (told ≡ pages_faults.Memory)) × IsPagesFaultTold warnings pages.folder told status old.sinks new.sinks)
-    → HasNoPages folder pages warnings status old new
-no_pages_told folder pages warnings status old new fault comes finished names begun (told, is, (same, withheld, said)) =
+pub no_pages_told : (folder : FolderData) (pages : PagesData) (warnings : List ℕ) (status : ℕ) (files after : OutputFilesData) (old new : SinksData) (fault : PagesFault)
+    → IsPagesFault (work_of_pages folder pages) pages.sections fault → after.finished ≡ files.finished → after.names ≡ files.names → after.begun ≡ files.begun
+    → ((told : PagesFault) × ((told ≡ fault) ⊎ (told ≡ pages_faults.Memory)) × IsPagesFaultTold warnings pages.folder told status old new)
+    → EndsUnwritten folder pages warnings status files after old new
+no_pages_told folder pages warnings status files after old new fault comes finished names begun (told, is, (same, withheld, said)) =
     (told, (fault_of_told (work_of_pages folder pages) pages.sections fault told is comes, finished, names), begun, same, withheld, said)
 
 -- ---- the texts

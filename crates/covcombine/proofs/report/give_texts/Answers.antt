@@ -1,4 +1,4 @@
-use Rattle.std.proofs.Common.{Some, refl, sym, ap, subst, ◌∙◌}
+use Rattle.std.proofs.Common.{option_map, refl, sym, ap, subst, ◌∙◌}
 use Rattle.covworld.specs.OutputFiles.{CountsFault, output_files}
 use Rattle.covworld.specs.World.{WorldData}
 use Rattle.covworld.specs.declared.output_folder.OutputFault.{OutputFault}
@@ -12,10 +12,10 @@ returns-in_default-clause-given g c =
     rw (← c.world.view_is) (no_room _ _ _ _ _ _ _ c.report_no_memory.ensures.status refl c.report_no_memory.ensures.withheld c.report_no_memory.ensures.said)
 
 -- without a file
-pub returns-in_default-in-Ok-clause-given : goal.returns-in_default-in-Ok-clause-given
-returns-in_default-in-Ok-clause-given g c =
-    rw (← c.world.view_is, c.in_default-in-Ok.is)
-    (tracefile_printed _ (texts_data c.args.texts) _ _ _ _ refl (rw (c.get.ensures, c.in-Ok.ensures.cut, c.in_default-in-Ok.is) at c.print.ensures))
+pub returns-in_default-file-clause-given : goal.returns-in_default-file-clause-given
+returns-in_default-file-clause-given g c =
+    rw (← c.world.view_is, c.in_default-file.is)
+    (tracefile_printed _ (texts_data c.args.texts) _ _ _ _ refl (rw (c.get-cut.ensures, c.in-Ok.ensures.cut, c.in_default-file.is) at c.print.ensures))
 
 pub returns-in-Ok-write_file-clause-given : goal.returns-in-Ok-write_file-clause-given
 returns-in-Ok-write_file-clause-given g c =
@@ -23,7 +23,7 @@ returns-in-Ok-write_file-clause-given g c =
     rw (← c.world.view_is, c.in-Some.is)
     (file_written c.in-Some.name.now _ (texts_data c.args.texts) _ _ _ _
     (c.in-Ok-write_file.ensures.finished, c.in-Ok-write_file.ensures.named, c.write_file.ensures.none ∙ sym begun, c.in-Ok-write_file.ensures.good)
-    (rw (c.get.ensures, c.in-Ok.ensures.cut, c.in-Some.is) at c.print-in-Ok-write_file.ensures))
+    (rw (c.get-cut.ensures, c.in-Ok.ensures.cut, c.in-Some.is) at c.print-in-Ok-write_file.ensures))
 
 pub returns-in-Err-Failed-clause-given : goal.returns-in-Err-Failed-clause-given
 returns-in-Err-Failed-clause-given g c =
@@ -37,7 +37,7 @@ returns-in-Err-Failed-clause-given g c =
       c.write_file.ensures.none ∙ sym begun,
       counted,
       c.say.ensures.withheld,
-      rw (c.get-in-Err-Failed.ensures, c.in-Ok.ensures.unwritten c.in-Some.name.now (ap (λ file. file) refl)) at c.say.ensures.said,
+      rw (c.get-in-Err-Failed.ensures, c.in-Ok.ensures.unwritten c.in-Some.name.now (ap (λ file. option_map (λ name. name.now) file) c.in-Some.is)) at c.say.ensures.said,
     ))
 
 -- memory runs out when the file is begun or finished

@@ -8,7 +8,7 @@ use Rattle.covcombine.proofs.report.give_with_pages.Goals as goal
 
 -- the folder is written, and nothing else has changed
 pub give_texts-requires : goal.give_texts-requires
-give_texts-requires g c = can_still _ _ _ _ _ c.in-Ok.ensures.written c.write_pages.ensures.none (rw c.world.view_is at c.requires)
+give_texts-requires g c = can_still _ _ _ _ _ c.in-Ok.ensures.written c.write_pages.ensures.none (rw (← c.world.view_is) at c.requires)
 
 pub returns-in-Ok-append-clause-given : goal.returns-in-Ok-append-clause-given
 returns-in-Ok-append-clause-given g c =
@@ -27,5 +27,5 @@ pub returns-in-Err-clause-given : goal.returns-in-Err-clause-given
 returns-in-Err-clause-given g c =
     let begun = ap (λ (w : WorldData). w.files.begun) c.world.view_is ∙ c.requires.begun in
     rw (← c.world.view_is)
-    (inl (no_pages_told (folder_data g.F.Folder g.F.File.Source c.args.sources.now) (pages_data g.T.Table.shown c.args.pages.now) c.args.warnings _ _ _ c.in-Err.fault
+    (inl (no_pages_told (folder_data g.F.Folder g.F.File.Source c.args.sources.now) (pages_data g.T.Table.shown c.args.pages.now) c.args.warnings _ _ _ _ _ c.in-Err.fault
     c.in-Err.ensures.refused c.in-Err.ensures.same c.in-Err.ensures.unnamed (c.write_pages.ensures.none ∙ sym begun) c.report_pages_fault.ensures))
