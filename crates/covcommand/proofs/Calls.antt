@@ -214,50 +214,50 @@ unfolding clap_on_literals
 jobs_asked = (rows_for (codes "covcollect" ∷ codes "check" ∷ codes "-j" ∷ codes "3" ∷ codes "--gcov" ∷ codes "a.c.gcov" ∷ codes "b.c.gcov" ∷ []), named (codes "check") (subcommand_of covcollect (codes "covcollect" ∷ codes "check" ∷ codes "-j" ∷ codes "3" ∷ codes "--gcov" ∷ codes "a.c.gcov" ∷ codes "b.c.gcov" ∷ [])) refl, refl, (codes "3", refl, refl), refl)
 
 pub merge_filter_asked : AsksFor (subcommand_of covcollect (codes "covcollect" ∷ codes "merge" ∷ codes "--include" ∷ codes "b" ∷ codes "--exclude" ∷ codes "x" ∷ codes "--include=a" ∷ codes "--exclude" ∷ codes "y" ∷ codes "f" ∷ []))
-    (Merge One 1 (record { includes = codes "b" ∷ codes "a" ∷ []; excludes = codes "x" ∷ codes "y" ∷ [] }) (codes "f" ∷ []))
+    (Merge (record { version = One; jobs = 1; filter = record { includes = codes "b" ∷ codes "a" ∷ []; excludes = codes "x" ∷ codes "y" ∷ [] }; names = codes "f" ∷ [] }))
 unfolding clap_on_literals
-merge_filter_asked = (rows_for (codes "covcollect" ∷ codes "merge" ∷ codes "--include" ∷ codes "b" ∷ codes "--exclude" ∷ codes "x" ∷ codes "--include=a" ∷ codes "--exclude" ∷ codes "y" ∷ codes "f" ∷ []), named (codes "merge") (subcommand_of covcollect (codes "covcollect" ∷ codes "merge" ∷ codes "--include" ∷ codes "b" ∷ codes "--exclude" ∷ codes "x" ∷ codes "--include=a" ∷ codes "--exclude" ∷ codes "y" ∷ codes "f" ∷ [])) refl, refl, (codes "1", refl, refl), (refl, refl), refl)
+merge_filter_asked = (rows_for (codes "covcollect" ∷ codes "merge" ∷ codes "--include" ∷ codes "b" ∷ codes "--exclude" ∷ codes "x" ∷ codes "--include=a" ∷ codes "--exclude" ∷ codes "y" ∷ codes "f" ∷ []), named (codes "merge") (subcommand_of covcollect (codes "covcollect" ∷ codes "merge" ∷ codes "--include" ∷ codes "b" ∷ codes "--exclude" ∷ codes "x" ∷ codes "--include=a" ∷ codes "--exclude" ∷ codes "y" ∷ codes "f" ∷ [])) refl, record { version = refl; jobs = (codes "1", refl, refl); filter = (refl, refl); names = refl })
 
 pub summary_filter_asked : AsksFor (subcommand_of covcollect (codes "covcollect" ∷ codes "summary" ∷ codes "f" ∷ codes "--exclude=x" ∷ codes "--lcov2" ∷ []))
-    (Summary Two 1 (record { includes = []; excludes = codes "x" ∷ [] }) Words (record { lines = None; functions = None; branches = None }) (codes "f" ∷ []))
+    (Summary (record { version = Two; jobs = 1; filter = record { includes = []; excludes = codes "x" ∷ [] }; names = codes "f" ∷ [] }) Words (record { lines = None; functions = None; branches = None }))
 unfolding clap_on_literals
-summary_filter_asked = (rows_for (codes "covcollect" ∷ codes "summary" ∷ codes "f" ∷ codes "--exclude=x" ∷ codes "--lcov2" ∷ []), named (codes "summary") (subcommand_of covcollect (codes "covcollect" ∷ codes "summary" ∷ codes "f" ∷ codes "--exclude=x" ∷ codes "--lcov2" ∷ [])) refl, refl, (codes "1", refl, refl), (refl, refl), refl, (refl, refl, refl), refl)
+summary_filter_asked = (rows_for (codes "covcollect" ∷ codes "summary" ∷ codes "f" ∷ codes "--exclude=x" ∷ codes "--lcov2" ∷ []), named (codes "summary") (subcommand_of covcollect (codes "covcollect" ∷ codes "summary" ∷ codes "f" ∷ codes "--exclude=x" ∷ codes "--lcov2" ∷ [])) refl, record { version = refl; jobs = (codes "1", refl, refl); filter = (refl, refl); names = refl }, refl, (refl, refl, refl))
 
 pub neither_filter_asked : AsksFor (subcommand_of covcollect (codes "covcollect" ∷ codes "merge" ∷ codes "f" ∷ []))
-    (Merge One 1 (record { includes = []; excludes = [] }) (codes "f" ∷ []))
+    (Merge (record { version = One; jobs = 1; filter = record { includes = []; excludes = [] }; names = codes "f" ∷ [] }))
 unfolding clap_on_literals
-neither_filter_asked = (rows_for (codes "covcollect" ∷ codes "merge" ∷ codes "f" ∷ []), named (codes "merge") (subcommand_of covcollect (codes "covcollect" ∷ codes "merge" ∷ codes "f" ∷ [])) refl, refl, (codes "1", refl, refl), (refl, refl), refl)
+neither_filter_asked = (rows_for (codes "covcollect" ∷ codes "merge" ∷ codes "f" ∷ []), named (codes "merge") (subcommand_of covcollect (codes "covcollect" ∷ codes "merge" ∷ codes "f" ∷ [])) refl, record { version = refl; jobs = (codes "1", refl, refl); filter = (refl, refl); names = refl })
 
 pub name_filter_asked : AsksFor (subcommand_of covcollect (codes "covcollect" ∷ codes "merge" ∷ codes "--" ∷ codes "--include" ∷ codes "a" ∷ []))
-    (Merge One 1 (record { includes = []; excludes = [] }) (codes "--include" ∷ codes "a" ∷ []))
+    (Merge (record { version = One; jobs = 1; filter = record { includes = []; excludes = [] }; names = codes "--include" ∷ codes "a" ∷ [] }))
 unfolding clap_on_literals
-name_filter_asked = (rows_for (codes "covcollect" ∷ codes "merge" ∷ codes "--" ∷ codes "--include" ∷ codes "a" ∷ []), named (codes "merge") (subcommand_of covcollect (codes "covcollect" ∷ codes "merge" ∷ codes "--" ∷ codes "--include" ∷ codes "a" ∷ [])) refl, refl, (codes "1", refl, refl), (refl, refl), refl)
+name_filter_asked = (rows_for (codes "covcollect" ∷ codes "merge" ∷ codes "--" ∷ codes "--include" ∷ codes "a" ∷ []), named (codes "merge") (subcommand_of covcollect (codes "covcollect" ∷ codes "merge" ∷ codes "--" ∷ codes "--include" ∷ codes "a" ∷ [])) refl, record { version = refl; jobs = (codes "1", refl, refl); filter = (refl, refl); names = refl })
 
 pub summary_total_asked : AsksFor (subcommand_of covcollect (codes "covcollect" ∷ codes "summary" ∷ codes "--json" ∷ codes "--fail-under-lines" ∷ codes "80" ∷ codes "--fail-under-branches" ∷ codes "79.5" ∷ codes "a" ∷ []))
-    (Summary One 1 (record { includes = []; excludes = [] }) Json (record { lines = Some (codes "80"); functions = None; branches = Some (codes "79.5") }) (codes "a" ∷ []))
+    (Summary (record { version = One; jobs = 1; filter = record { includes = []; excludes = [] }; names = codes "a" ∷ [] }) Json (record { lines = Some (codes "80"); functions = None; branches = Some (codes "79.5") }))
 unfolding clap_on_literals
-summary_total_asked = (rows_for (codes "covcollect" ∷ codes "summary" ∷ codes "--json" ∷ codes "--fail-under-lines" ∷ codes "80" ∷ codes "--fail-under-branches" ∷ codes "79.5" ∷ codes "a" ∷ []), named (codes "summary") (subcommand_of covcollect (codes "covcollect" ∷ codes "summary" ∷ codes "--json" ∷ codes "--fail-under-lines" ∷ codes "80" ∷ codes "--fail-under-branches" ∷ codes "79.5" ∷ codes "a" ∷ [])) refl, refl, (codes "1", refl, refl), (refl, refl), refl, (refl, refl, refl), refl)
+summary_total_asked = (rows_for (codes "covcollect" ∷ codes "summary" ∷ codes "--json" ∷ codes "--fail-under-lines" ∷ codes "80" ∷ codes "--fail-under-branches" ∷ codes "79.5" ∷ codes "a" ∷ []), named (codes "summary") (subcommand_of covcollect (codes "covcollect" ∷ codes "summary" ∷ codes "--json" ∷ codes "--fail-under-lines" ∷ codes "80" ∷ codes "--fail-under-branches" ∷ codes "79.5" ∷ codes "a" ∷ [])) refl, record { version = refl; jobs = (codes "1", refl, refl); filter = (refl, refl); names = refl }, refl, (refl, refl, refl))
 
 pub functions_total_asked : AsksFor (subcommand_of covcollect (codes "covcollect" ∷ codes "summary" ∷ codes "a" ∷ codes "--fail-under-functions=x" ∷ []))
-    (Summary One 1 (record { includes = []; excludes = [] }) Words (record { lines = None; functions = Some (codes "x"); branches = None }) (codes "a" ∷ []))
+    (Summary (record { version = One; jobs = 1; filter = record { includes = []; excludes = [] }; names = codes "a" ∷ [] }) Words (record { lines = None; functions = Some (codes "x"); branches = None }))
 unfolding clap_on_literals
-functions_total_asked = (rows_for (codes "covcollect" ∷ codes "summary" ∷ codes "a" ∷ codes "--fail-under-functions=x" ∷ []), named (codes "summary") (subcommand_of covcollect (codes "covcollect" ∷ codes "summary" ∷ codes "a" ∷ codes "--fail-under-functions=x" ∷ [])) refl, refl, (codes "1", refl, refl), (refl, refl), refl, (refl, refl, refl), refl)
+functions_total_asked = (rows_for (codes "covcollect" ∷ codes "summary" ∷ codes "a" ∷ codes "--fail-under-functions=x" ∷ []), named (codes "summary") (subcommand_of covcollect (codes "covcollect" ∷ codes "summary" ∷ codes "a" ∷ codes "--fail-under-functions=x" ∷ [])) refl, record { version = refl; jobs = (codes "1", refl, refl); filter = (refl, refl); names = refl }, refl, (refl, refl, refl))
 
 pub list_total_asked : AsksFor (subcommand_of covcollect (codes "covcollect" ∷ codes "list" ∷ codes "--lcov2" ∷ codes "--include" ∷ codes "b" ∷ codes "--exclude" ∷ codes "x" ∷ codes "--json" ∷ codes "a" ∷ []))
-    (commands.List Two 1 (record { includes = codes "b" ∷ []; excludes = codes "x" ∷ [] }) Json (codes "a" ∷ []))
+    (commands.List (record { version = Two; jobs = 1; filter = record { includes = codes "b" ∷ []; excludes = codes "x" ∷ [] }; names = codes "a" ∷ [] }) Json)
 unfolding clap_on_literals
-list_total_asked = (rows_for (codes "covcollect" ∷ codes "list" ∷ codes "--lcov2" ∷ codes "--include" ∷ codes "b" ∷ codes "--exclude" ∷ codes "x" ∷ codes "--json" ∷ codes "a" ∷ []), named (codes "list") (subcommand_of covcollect (codes "covcollect" ∷ codes "list" ∷ codes "--lcov2" ∷ codes "--include" ∷ codes "b" ∷ codes "--exclude" ∷ codes "x" ∷ codes "--json" ∷ codes "a" ∷ [])) refl, refl, (codes "1", refl, refl), (refl, refl), refl, refl)
+list_total_asked = (rows_for (codes "covcollect" ∷ codes "list" ∷ codes "--lcov2" ∷ codes "--include" ∷ codes "b" ∷ codes "--exclude" ∷ codes "x" ∷ codes "--json" ∷ codes "a" ∷ []), named (codes "list") (subcommand_of covcollect (codes "covcollect" ∷ codes "list" ∷ codes "--lcov2" ∷ codes "--include" ∷ codes "b" ∷ codes "--exclude" ∷ codes "x" ∷ codes "--json" ∷ codes "a" ∷ [])) refl, record { version = refl; jobs = (codes "1", refl, refl); filter = (refl, refl); names = refl }, refl)
 
 pub name_total_asked : AsksFor (subcommand_of covcollect (codes "covcollect" ∷ codes "list" ∷ codes "--" ∷ codes "--json" ∷ []))
-    (commands.List One 1 (record { includes = []; excludes = [] }) Words (codes "--json" ∷ []))
+    (commands.List (record { version = One; jobs = 1; filter = record { includes = []; excludes = [] }; names = codes "--json" ∷ [] }) Words)
 unfolding clap_on_literals
-name_total_asked = (rows_for (codes "covcollect" ∷ codes "list" ∷ codes "--" ∷ codes "--json" ∷ []), named (codes "list") (subcommand_of covcollect (codes "covcollect" ∷ codes "list" ∷ codes "--" ∷ codes "--json" ∷ [])) refl, refl, (codes "1", refl, refl), (refl, refl), refl, refl)
+name_total_asked = (rows_for (codes "covcollect" ∷ codes "list" ∷ codes "--" ∷ codes "--json" ∷ []), named (codes "list") (subcommand_of covcollect (codes "covcollect" ∷ codes "list" ∷ codes "--" ∷ codes "--json" ∷ [])) refl, record { version = refl; jobs = (codes "1", refl, refl); filter = (refl, refl); names = refl }, refl)
 
 pub merge_output_asked : (output : Option (String Global)) → Some (codes "out") ≡ option_map string_bytes output
     → AsksForAll (subcommand_of covcollect (codes "covcollect" ∷ codes "merge" ∷ codes "-o" ∷ codes "out" ∷ codes "f" ∷ []))
-    (record { command = Merge One 1 (record { includes = []; excludes = [] }) (codes "f" ∷ []); strictness = Lenient; size = Limited; output = output })
+    (record { command = Merge (record { version = One; jobs = 1; filter = record { includes = []; excludes = [] }; names = codes "f" ∷ [] }); strictness = Lenient; size = Limited; output = output })
 unfolding clap_on_literals
-merge_output_asked output is = ((rows_for (codes "covcollect" ∷ codes "merge" ∷ codes "-o" ∷ codes "out" ∷ codes "f" ∷ []), named (codes "merge") (subcommand_of covcollect (codes "covcollect" ∷ codes "merge" ∷ codes "-o" ∷ codes "out" ∷ codes "f" ∷ [])) refl, refl, (codes "1", refl, refl), (refl, refl), refl), refl, refl, is)
+merge_output_asked output is = ((rows_for (codes "covcollect" ∷ codes "merge" ∷ codes "-o" ∷ codes "out" ∷ codes "f" ∷ []), named (codes "merge") (subcommand_of covcollect (codes "covcollect" ∷ codes "merge" ∷ codes "-o" ∷ codes "out" ∷ codes "f" ∷ [])) refl, record { version = refl; jobs = (codes "1", refl, refl); filter = (refl, refl); names = refl }), refl, refl, is)
 
 pub extract_output_asked : (output : Option (String Global)) → Some (codes "out") ≡ option_map string_bytes output
     → AsksForAll (subcommand_of covcollect (codes "covcollect" ∷ codes "extract" ∷ codes "f" ∷ codes "p" ∷ codes "--output=out" ∷ []))
@@ -290,9 +290,9 @@ unfolding clap_on_literals
 dash_output_asked = refl
 
 pub neither_output_asked : AsksForAll (subcommand_of covcollect (codes "covcollect" ∷ codes "merge" ∷ codes "f" ∷ []))
-    (record { command = Merge One 1 (record { includes = []; excludes = [] }) (codes "f" ∷ []); strictness = Lenient; size = Limited; output = None })
+    (record { command = Merge (record { version = One; jobs = 1; filter = record { includes = []; excludes = [] }; names = codes "f" ∷ [] }); strictness = Lenient; size = Limited; output = None })
 unfolding clap_on_literals
-neither_output_asked = ((rows_for (codes "covcollect" ∷ codes "merge" ∷ codes "f" ∷ []), named (codes "merge") (subcommand_of covcollect (codes "covcollect" ∷ codes "merge" ∷ codes "f" ∷ [])) refl, refl, (codes "1", refl, refl), (refl, refl), refl), refl, refl, refl)
+neither_output_asked = ((rows_for (codes "covcollect" ∷ codes "merge" ∷ codes "f" ∷ []), named (codes "merge") (subcommand_of covcollect (codes "covcollect" ∷ codes "merge" ∷ codes "f" ∷ [])) refl, record { version = refl; jobs = (codes "1", refl, refl); filter = (refl, refl); names = refl }), refl, refl, refl)
 
 pub name_output_asked : AsksForAll (subcommand_of covcollect (codes "covcollect" ∷ codes "extract" ∷ codes "f" ∷ codes "--" ∷ codes "-o" ∷ []))
     (record { command = Extract One (codes "f" ∷ codes "-o" ∷ []); strictness = Lenient; size = Limited; output = None })
@@ -305,19 +305,19 @@ unfolding clap_on_literals
 check_output_asked = ((rows_for (codes "covcollect" ∷ codes "check" ∷ codes "f" ∷ []), named (codes "check") (subcommand_of covcollect (codes "covcollect" ∷ codes "check" ∷ codes "f" ∷ [])) refl, (refl, refl), (codes "1", refl, refl), refl), refl, refl, refl)
 
 pub merge_strict_asked : AsksForAll (subcommand_of covcollect (codes "covcollect" ∷ codes "merge" ∷ codes "--strict" ∷ codes "f" ∷ []))
-    (record { command = Merge One 1 (record { includes = []; excludes = [] }) (codes "f" ∷ []); strictness = Strict; size = Limited; output = None })
+    (record { command = Merge (record { version = One; jobs = 1; filter = record { includes = []; excludes = [] }; names = codes "f" ∷ [] }); strictness = Strict; size = Limited; output = None })
 unfolding clap_on_literals
-merge_strict_asked = ((rows_for (codes "covcollect" ∷ codes "merge" ∷ codes "--strict" ∷ codes "f" ∷ []), named (codes "merge") (subcommand_of covcollect (codes "covcollect" ∷ codes "merge" ∷ codes "--strict" ∷ codes "f" ∷ [])) refl, refl, (codes "1", refl, refl), (refl, refl), refl), refl, refl, refl)
+merge_strict_asked = ((rows_for (codes "covcollect" ∷ codes "merge" ∷ codes "--strict" ∷ codes "f" ∷ []), named (codes "merge") (subcommand_of covcollect (codes "covcollect" ∷ codes "merge" ∷ codes "--strict" ∷ codes "f" ∷ [])) refl, record { version = refl; jobs = (codes "1", refl, refl); filter = (refl, refl); names = refl }), refl, refl, refl)
 
 pub summary_strict_asked : AsksForAll (subcommand_of covcollect (codes "covcollect" ∷ codes "summary" ∷ codes "f" ∷ codes "--strict" ∷ codes "--json" ∷ []))
-    (record { command = Summary One 1 (record { includes = []; excludes = [] }) Json (record { lines = None; functions = None; branches = None }) (codes "f" ∷ []); strictness = Strict; size = Limited; output = None })
+    (record { command = Summary (record { version = One; jobs = 1; filter = record { includes = []; excludes = [] }; names = codes "f" ∷ [] }) Json (record { lines = None; functions = None; branches = None }); strictness = Strict; size = Limited; output = None })
 unfolding clap_on_literals
-summary_strict_asked = ((rows_for (codes "covcollect" ∷ codes "summary" ∷ codes "f" ∷ codes "--strict" ∷ codes "--json" ∷ []), named (codes "summary") (subcommand_of covcollect (codes "covcollect" ∷ codes "summary" ∷ codes "f" ∷ codes "--strict" ∷ codes "--json" ∷ [])) refl, refl, (codes "1", refl, refl), (refl, refl), refl, (refl, refl, refl), refl), refl, refl, refl)
+summary_strict_asked = ((rows_for (codes "covcollect" ∷ codes "summary" ∷ codes "f" ∷ codes "--strict" ∷ codes "--json" ∷ []), named (codes "summary") (subcommand_of covcollect (codes "covcollect" ∷ codes "summary" ∷ codes "f" ∷ codes "--strict" ∷ codes "--json" ∷ [])) refl, record { version = refl; jobs = (codes "1", refl, refl); filter = (refl, refl); names = refl }, refl, (refl, refl, refl)), refl, refl, refl)
 
 pub list_strict_asked : AsksForAll (subcommand_of covcollect (codes "covcollect" ∷ codes "list" ∷ codes "--lcov2" ∷ codes "--strict" ∷ codes "f" ∷ codes "g" ∷ []))
-    (record { command = commands.List Two 1 (record { includes = []; excludes = [] }) Words (codes "f" ∷ codes "g" ∷ []); strictness = Strict; size = Limited; output = None })
+    (record { command = commands.List (record { version = Two; jobs = 1; filter = record { includes = []; excludes = [] }; names = codes "f" ∷ codes "g" ∷ [] }) Words; strictness = Strict; size = Limited; output = None })
 unfolding clap_on_literals
-list_strict_asked = ((rows_for (codes "covcollect" ∷ codes "list" ∷ codes "--lcov2" ∷ codes "--strict" ∷ codes "f" ∷ codes "g" ∷ []), named (codes "list") (subcommand_of covcollect (codes "covcollect" ∷ codes "list" ∷ codes "--lcov2" ∷ codes "--strict" ∷ codes "f" ∷ codes "g" ∷ [])) refl, refl, (codes "1", refl, refl), (refl, refl), refl, refl), refl, refl, refl)
+list_strict_asked = ((rows_for (codes "covcollect" ∷ codes "list" ∷ codes "--lcov2" ∷ codes "--strict" ∷ codes "f" ∷ codes "g" ∷ []), named (codes "list") (subcommand_of covcollect (codes "covcollect" ∷ codes "list" ∷ codes "--lcov2" ∷ codes "--strict" ∷ codes "f" ∷ codes "g" ∷ [])) refl, record { version = refl; jobs = (codes "1", refl, refl); filter = (refl, refl); names = refl }, refl), refl, refl, refl)
 
 pub extract_strict_asked : AsksForAll (subcommand_of covcollect (codes "covcollect" ∷ codes "extract" ∷ codes "f" ∷ codes "--strict" ∷ codes "p" ∷ []))
     (record { command = Extract One (codes "f" ∷ codes "p" ∷ []); strictness = Strict; size = Limited; output = None })
@@ -369,24 +369,24 @@ unfolding clap_on_literals
 session_strict_asked = (refl, refl, refl, refl)
 
 pub name_strict_asked : AsksForAll (subcommand_of covcollect (codes "covcollect" ∷ codes "merge" ∷ codes "--" ∷ codes "--strict" ∷ []))
-    (record { command = Merge One 1 (record { includes = []; excludes = [] }) (codes "--strict" ∷ []); strictness = Lenient; size = Limited; output = None })
+    (record { command = Merge (record { version = One; jobs = 1; filter = record { includes = []; excludes = [] }; names = codes "--strict" ∷ [] }); strictness = Lenient; size = Limited; output = None })
 unfolding clap_on_literals
-name_strict_asked = ((rows_for (codes "covcollect" ∷ codes "merge" ∷ codes "--" ∷ codes "--strict" ∷ []), named (codes "merge") (subcommand_of covcollect (codes "covcollect" ∷ codes "merge" ∷ codes "--" ∷ codes "--strict" ∷ [])) refl, refl, (codes "1", refl, refl), (refl, refl), refl), refl, refl, refl)
+name_strict_asked = ((rows_for (codes "covcollect" ∷ codes "merge" ∷ codes "--" ∷ codes "--strict" ∷ []), named (codes "merge") (subcommand_of covcollect (codes "covcollect" ∷ codes "merge" ∷ codes "--" ∷ codes "--strict" ∷ [])) refl, record { version = refl; jobs = (codes "1", refl, refl); filter = (refl, refl); names = refl }), refl, refl, refl)
 
 pub merge_large_asked : AsksForAll (subcommand_of covcollect (codes "covcollect" ∷ codes "merge" ∷ codes "--large" ∷ codes "f" ∷ []))
-    (record { command = Merge One 1 (record { includes = []; excludes = [] }) (codes "f" ∷ []); strictness = Lenient; size = Large; output = None })
+    (record { command = Merge (record { version = One; jobs = 1; filter = record { includes = []; excludes = [] }; names = codes "f" ∷ [] }); strictness = Lenient; size = Large; output = None })
 unfolding clap_on_literals
-merge_large_asked = ((rows_for (codes "covcollect" ∷ codes "merge" ∷ codes "--large" ∷ codes "f" ∷ []), named (codes "merge") (subcommand_of covcollect (codes "covcollect" ∷ codes "merge" ∷ codes "--large" ∷ codes "f" ∷ [])) refl, refl, (codes "1", refl, refl), (refl, refl), refl), refl, refl, refl)
+merge_large_asked = ((rows_for (codes "covcollect" ∷ codes "merge" ∷ codes "--large" ∷ codes "f" ∷ []), named (codes "merge") (subcommand_of covcollect (codes "covcollect" ∷ codes "merge" ∷ codes "--large" ∷ codes "f" ∷ [])) refl, record { version = refl; jobs = (codes "1", refl, refl); filter = (refl, refl); names = refl }), refl, refl, refl)
 
 pub summary_large_asked : AsksForAll (subcommand_of covcollect (codes "covcollect" ∷ codes "summary" ∷ codes "f" ∷ codes "--large" ∷ codes "--json" ∷ []))
-    (record { command = Summary One 1 (record { includes = []; excludes = [] }) Json (record { lines = None; functions = None; branches = None }) (codes "f" ∷ []); strictness = Lenient; size = Large; output = None })
+    (record { command = Summary (record { version = One; jobs = 1; filter = record { includes = []; excludes = [] }; names = codes "f" ∷ [] }) Json (record { lines = None; functions = None; branches = None }); strictness = Lenient; size = Large; output = None })
 unfolding clap_on_literals
-summary_large_asked = ((rows_for (codes "covcollect" ∷ codes "summary" ∷ codes "f" ∷ codes "--large" ∷ codes "--json" ∷ []), named (codes "summary") (subcommand_of covcollect (codes "covcollect" ∷ codes "summary" ∷ codes "f" ∷ codes "--large" ∷ codes "--json" ∷ [])) refl, refl, (codes "1", refl, refl), (refl, refl), refl, (refl, refl, refl), refl), refl, refl, refl)
+summary_large_asked = ((rows_for (codes "covcollect" ∷ codes "summary" ∷ codes "f" ∷ codes "--large" ∷ codes "--json" ∷ []), named (codes "summary") (subcommand_of covcollect (codes "covcollect" ∷ codes "summary" ∷ codes "f" ∷ codes "--large" ∷ codes "--json" ∷ [])) refl, record { version = refl; jobs = (codes "1", refl, refl); filter = (refl, refl); names = refl }, refl, (refl, refl, refl)), refl, refl, refl)
 
 pub list_large_asked : AsksForAll (subcommand_of covcollect (codes "covcollect" ∷ codes "list" ∷ codes "--lcov2" ∷ codes "--large" ∷ codes "f" ∷ codes "g" ∷ []))
-    (record { command = commands.List Two 1 (record { includes = []; excludes = [] }) Words (codes "f" ∷ codes "g" ∷ []); strictness = Lenient; size = Large; output = None })
+    (record { command = commands.List (record { version = Two; jobs = 1; filter = record { includes = []; excludes = [] }; names = codes "f" ∷ codes "g" ∷ [] }) Words; strictness = Lenient; size = Large; output = None })
 unfolding clap_on_literals
-list_large_asked = ((rows_for (codes "covcollect" ∷ codes "list" ∷ codes "--lcov2" ∷ codes "--large" ∷ codes "f" ∷ codes "g" ∷ []), named (codes "list") (subcommand_of covcollect (codes "covcollect" ∷ codes "list" ∷ codes "--lcov2" ∷ codes "--large" ∷ codes "f" ∷ codes "g" ∷ [])) refl, refl, (codes "1", refl, refl), (refl, refl), refl, refl), refl, refl, refl)
+list_large_asked = ((rows_for (codes "covcollect" ∷ codes "list" ∷ codes "--lcov2" ∷ codes "--large" ∷ codes "f" ∷ codes "g" ∷ []), named (codes "list") (subcommand_of covcollect (codes "covcollect" ∷ codes "list" ∷ codes "--lcov2" ∷ codes "--large" ∷ codes "f" ∷ codes "g" ∷ [])) refl, record { version = refl; jobs = (codes "1", refl, refl); filter = (refl, refl); names = refl }, refl), refl, refl, refl)
 
 pub extract_large_asked : AsksForAll (subcommand_of covcollect (codes "covcollect" ∷ codes "extract" ∷ codes "f" ∷ codes "--large" ∷ codes "p" ∷ []))
     (record { command = Extract One (codes "f" ∷ codes "p" ∷ []); strictness = Lenient; size = Large; output = None })
@@ -404,9 +404,9 @@ unfolding clap_on_literals
 check_large_asked = ((rows_for (codes "covcollect" ∷ codes "check" ∷ codes "--large" ∷ codes "--gcov" ∷ codes "f" ∷ []), named (codes "check") (subcommand_of covcollect (codes "covcollect" ∷ codes "check" ∷ codes "--large" ∷ codes "--gcov" ∷ codes "f" ∷ [])) refl, refl, (codes "1", refl, refl), refl), refl, refl, refl)
 
 pub both_large_asked : AsksForAll (subcommand_of covcollect (codes "covcollect" ∷ codes "merge" ∷ codes "--strict" ∷ codes "f" ∷ codes "--large" ∷ []))
-    (record { command = Merge One 1 (record { includes = []; excludes = [] }) (codes "f" ∷ []); strictness = Strict; size = Large; output = None })
+    (record { command = Merge (record { version = One; jobs = 1; filter = record { includes = []; excludes = [] }; names = codes "f" ∷ [] }); strictness = Strict; size = Large; output = None })
 unfolding clap_on_literals
-both_large_asked = ((rows_for (codes "covcollect" ∷ codes "merge" ∷ codes "--strict" ∷ codes "f" ∷ codes "--large" ∷ []), named (codes "merge") (subcommand_of covcollect (codes "covcollect" ∷ codes "merge" ∷ codes "--strict" ∷ codes "f" ∷ codes "--large" ∷ [])) refl, refl, (codes "1", refl, refl), (refl, refl), refl), refl, refl, refl)
+both_large_asked = ((rows_for (codes "covcollect" ∷ codes "merge" ∷ codes "--strict" ∷ codes "f" ∷ codes "--large" ∷ []), named (codes "merge") (subcommand_of covcollect (codes "covcollect" ∷ codes "merge" ∷ codes "--strict" ∷ codes "f" ∷ codes "--large" ∷ [])) refl, record { version = refl; jobs = (codes "1", refl, refl); filter = (refl, refl); names = refl }), refl, refl, refl)
 
 pub merge_without_large_asked : IsSizeOf (rows_met (subcommand_of covcollect (codes "covcollect" ∷ codes "merge" ∷ codes "--lcov2" ∷ codes "--strict" ∷ codes "f" ∷ []))) Limited
 unfolding clap_on_literals
@@ -443,9 +443,9 @@ unfolding clap_on_literals
 session_large_asked = (refl, refl, refl, refl)
 
 pub name_large_asked : AsksForAll (subcommand_of covcollect (codes "covcollect" ∷ codes "merge" ∷ codes "--" ∷ codes "--large" ∷ []))
-    (record { command = Merge One 1 (record { includes = []; excludes = [] }) (codes "--large" ∷ []); strictness = Lenient; size = Limited; output = None })
+    (record { command = Merge (record { version = One; jobs = 1; filter = record { includes = []; excludes = [] }; names = codes "--large" ∷ [] }); strictness = Lenient; size = Limited; output = None })
 unfolding clap_on_literals
-name_large_asked = ((rows_for (codes "covcollect" ∷ codes "merge" ∷ codes "--" ∷ codes "--large" ∷ []), named (codes "merge") (subcommand_of covcollect (codes "covcollect" ∷ codes "merge" ∷ codes "--" ∷ codes "--large" ∷ [])) refl, refl, (codes "1", refl, refl), (refl, refl), refl), refl, refl, refl)
+name_large_asked = ((rows_for (codes "covcollect" ∷ codes "merge" ∷ codes "--" ∷ codes "--large" ∷ []), named (codes "merge") (subcommand_of covcollect (codes "covcollect" ∷ codes "merge" ∷ codes "--" ∷ codes "--large" ∷ [])) refl, record { version = refl; jobs = (codes "1", refl, refl); filter = (refl, refl); names = refl }), refl, refl, refl)
 
 pub jobs_refused : fault_of covcollect (codes "covcollect" ∷ codes "merge" ∷ codes "--jobs" ∷ codes "65" ∷ codes "a.info" ∷ []) ≡ kind.ValueValidation ∷ []
 unfolding clap_on_literals
@@ -661,17 +661,14 @@ merge_path_refused = refl
 
 pub html_few_asked : (folder : String Global) → codes "out" ≡ string_bytes folder
     → AsksForAll (subcommand_of covcollect (codes "covcollect" ∷ codes "html" ∷ codes "f" ∷ codes "-o" ∷ codes "out" ∷ []))
-    (record { command = Html One 1 (record { includes = []; excludes = [] }) (record { folder = folder; texts = record { title = None; date = None; sources = [] } }) (codes "f" ∷ []); strictness = Lenient; size = Limited; output = None })
+    (record { command = Html (record { version = One; jobs = 1; filter = record { includes = []; excludes = [] }; names = codes "f" ∷ [] }) (record { folder = folder; texts = record { title = None; date = None; sources = [] } }); strictness = Lenient; size = Limited; output = None })
 unfolding clap_on_literals
 html_few_asked folder is = (
   (
     rows_for (codes "covcollect" ∷ codes "html" ∷ codes "f" ∷ codes "-o" ∷ codes "out" ∷ []),
     named (codes "html") (subcommand_of covcollect (codes "covcollect" ∷ codes "html" ∷ codes "f" ∷ codes "-o" ∷ codes "out" ∷ [])) refl,
-    refl,
-    (codes "1", refl, refl),
-    (refl, refl),
+    record { version = refl; jobs = (codes "1", refl, refl); filter = (refl, refl); names = refl },
     record { folder = ap (λ t. Some t) is; texts = record { title = refl; date = refl; sources = refl } },
-    refl,
   ),
   refl,
   refl,
@@ -680,17 +677,14 @@ html_few_asked folder is = (
 
 pub html_some_asked : (folder : String Global) → codes "out" ≡ string_bytes folder
     → AsksForAll (subcommand_of covcollect (codes "covcollect" ∷ codes "html" ∷ codes "--output=out" ∷ codes "--title" ∷ codes "t" ∷ codes "--date" ∷ codes "d" ∷ codes "--source" ∷ codes "a=b" ∷ codes "--source" ∷ codes "c=d" ∷ codes "--strict" ∷ codes "f" ∷ codes "g" ∷ []))
-    (record { command = Html One 1 (record { includes = []; excludes = [] }) (record { folder = folder; texts = record { title = Some (codes "t"); date = Some (codes "d"); sources = codes "a=b" ∷ codes "c=d" ∷ [] } }) (codes "f" ∷ codes "g" ∷ []); strictness = Strict; size = Limited; output = None })
+    (record { command = Html (record { version = One; jobs = 1; filter = record { includes = []; excludes = [] }; names = codes "f" ∷ codes "g" ∷ [] }) (record { folder = folder; texts = record { title = Some (codes "t"); date = Some (codes "d"); sources = codes "a=b" ∷ codes "c=d" ∷ [] } }); strictness = Strict; size = Limited; output = None })
 unfolding clap_on_literals
 html_some_asked folder is = (
   (
     rows_for (codes "covcollect" ∷ codes "html" ∷ codes "--output=out" ∷ codes "--title" ∷ codes "t" ∷ codes "--date" ∷ codes "d" ∷ codes "--source" ∷ codes "a=b" ∷ codes "--source" ∷ codes "c=d" ∷ codes "--strict" ∷ codes "f" ∷ codes "g" ∷ []),
     named (codes "html") (subcommand_of covcollect (codes "covcollect" ∷ codes "html" ∷ codes "--output=out" ∷ codes "--title" ∷ codes "t" ∷ codes "--date" ∷ codes "d" ∷ codes "--source" ∷ codes "a=b" ∷ codes "--source" ∷ codes "c=d" ∷ codes "--strict" ∷ codes "f" ∷ codes "g" ∷ [])) refl,
-    refl,
-    (codes "1", refl, refl),
-    (refl, refl),
+    record { version = refl; jobs = (codes "1", refl, refl); filter = (refl, refl); names = refl },
     record { folder = ap (λ t. Some t) is; texts = record { title = refl; date = refl; sources = refl } },
-    refl,
   ),
   refl,
   refl,

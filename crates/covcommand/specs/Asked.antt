@@ -10,6 +10,7 @@ use Rattle.covcommand.specs.declared.asked.CombineOptions.{CombineOptions}
 use Rattle.covcommand.specs.declared.asked.Command.{Command}
 use Rattle.covcommand.specs.declared.asked.Command.TheVariants.{Session, Merge, Summary, Extract, Remove, Gcov, Check, Combine, Html}
 use Rattle.covcommand.specs.declared.asked.Command.TheVariants as commands
+use Rattle.covcommand.specs.declared.asked.MergeOptions.{MergeOptions}
 use Rattle.covcommand.specs.declared.asked.Overview.{Overview}
 use Rattle.covcommand.specs.declared.asked.PageOptions.{PageOptions}
 use Rattle.covcommand.specs.declared.asked.PageTexts.{PageTexts}
@@ -124,18 +125,21 @@ pub record AsksToCombine (rows : List Row) (options : CombineOptions) : Type 0 w
   pub limits : AreLimitsOf rows options.limits
   pub names : options.names ≡ values_of (codes "FILE") rows
 
+-- what the rows of `merge` ask for, and what those of `summary`, `list` and `html` ask for with it
+pub record AsksToMerge (rows : List Row) (options : MergeOptions) : Type 0 where
+  pub version : IsVersionOf rows options.version
+  pub jobs : IsNumberOf rows options.jobs
+  pub filter : IsFilterOf rows options.filter
+  pub names : options.names ≡ values_of (codes "FILE") rows
+
 -- a call asks for this command: `met` is the subcommand that clap reads from its words (`None` for a session), with a row for
 -- each of the subcommand's arguments, and the command has what the rows say
 abbrev pub AsksFor : Option (Text × List Row) → Command → Type 0
 AsksFor met Session = met ≡ None
-AsksFor met (Merge version jobs filter names) = (rows : List Row) × (met ≡ Some (codes "merge", rows))
-    × IsVersionOf rows version × IsNumberOf rows jobs × IsFilterOf rows filter × (names ≡ values_of (codes "FILE") rows)
-AsksFor met (Summary version jobs filter form limits names) = (rows : List Row) × (met ≡ Some (codes "summary", rows))
-    × IsVersionOf rows version × IsNumberOf rows jobs × IsFilterOf rows filter × IsFormOf rows form × AreLimitsOf rows limits
-    × (names ≡ values_of (codes "FILE") rows)
-AsksFor met (commands.List version jobs filter form names) = (rows : List Row) × (met ≡ Some (codes "list", rows))
-    × IsVersionOf rows version × IsNumberOf rows jobs × IsFilterOf rows filter × IsFormOf rows form
-    × (names ≡ values_of (codes "FILE") rows)
+AsksFor met (Merge options) = (rows : List Row) × (met ≡ Some (codes "merge", rows)) × AsksToMerge rows options
+AsksFor met (Summary merge form limits) = (rows : List Row) × (met ≡ Some (codes "summary", rows))
+    × AsksToMerge rows merge × IsFormOf rows form × AreLimitsOf rows limits
+AsksFor met (commands.List merge form) = (rows : List Row) × (met ≡ Some (codes "list", rows)) × AsksToMerge rows merge × IsFormOf rows form
 AsksFor met (Extract version names) = (rows : List Row) × (met ≡ Some (codes "extract", rows))
     × IsVersionOf rows version × (names ≡ tracefile_and_patterns rows)
 AsksFor met (Remove version names) = (rows : List Row) × (met ≡ Some (codes "remove", rows))
@@ -146,9 +150,7 @@ AsksFor met (Gcov test names) = (rows : List Row) × (met ≡ Some (codes "gcov"
 AsksFor met (Check how jobs names) = (rows : List Row) × (met ≡ Some (codes "check", rows))
     × IsFormatOf rows how × IsNumberOf rows jobs × (names ≡ values_of (codes "FILE") rows)
 AsksFor met (Combine options) = (rows : List Row) × (met ≡ Some (codes "combine", rows)) × AsksToCombine rows options
-AsksFor met (Html version jobs filter pages names) = (rows : List Row) × (met ≡ Some (codes "html", rows))
-    × IsVersionOf rows version × IsNumberOf rows jobs × IsFilterOf rows filter × ArePagesOf rows pages
-    × (names ≡ values_of (codes "FILE") rows)
+AsksFor met (Html merge pages) = (rows : List Row) × (met ≡ Some (codes "html", rows)) × AsksToMerge rows merge × ArePagesOf rows pages
 
 -- a call is strict if clap sets the flag `--strict`, and lenient if it doesn't
 abbrev pub IsStrictnessOf : List Row → Strictness → Type 0
@@ -158,15 +160,15 @@ IsStrictnessOf rows Strict = one_of (codes "strict") rows ≡ Some (codes "true"
 -- whether the call of this command is strict, by the flag `--strict`. A session and `gcov`, which have no such flag, are lenient
 abbrev pub HasStrictness : List Row → Command → Strictness → Type 0
 HasStrictness rows Session strictness = strictness ≡ Lenient
-HasStrictness rows (Merge version jobs filter names) strictness = IsStrictnessOf rows strictness
-HasStrictness rows (Summary version jobs filter form limits names) strictness = IsStrictnessOf rows strictness
-HasStrictness rows (commands.List version jobs filter form names) strictness = IsStrictnessOf rows strictness
+HasStrictness rows (Merge options) strictness = IsStrictnessOf rows strictness
+HasStrictness rows (Summary merge form limits) strictness = IsStrictnessOf rows strictness
+HasStrictness rows (commands.List merge form) strictness = IsStrictnessOf rows strictness
 HasStrictness rows (Extract version names) strictness = IsStrictnessOf rows strictness
 HasStrictness rows (Remove version names) strictness = IsStrictnessOf rows strictness
 HasStrictness rows (Gcov test names) strictness = strictness ≡ Lenient
 HasStrictness rows (Check how jobs names) strictness = IsStrictnessOf rows strictness
 HasStrictness rows (Combine options) strictness = IsStrictnessOf rows strictness
-HasStrictness rows (Html version jobs filter pages names) strictness = IsStrictnessOf rows strictness
+HasStrictness rows (Html merge pages) strictness = IsStrictnessOf rows strictness
 
 -- a call reads tracefiles above the limit if clap sets the flag `--large`, and refuses them if it doesn't
 abbrev pub IsSizeOf : List Row → TextSize → Type 0
@@ -177,15 +179,15 @@ IsSizeOf rows Large = one_of (codes "large") rows ≡ Some (codes "true")
 -- flag, are limited, and `combine`, which has none, isn't
 abbrev pub HasSize : List Row → Command → TextSize → Type 0
 HasSize rows Session size = size ≡ Limited
-HasSize rows (Merge version jobs filter names) size = IsSizeOf rows size
-HasSize rows (Summary version jobs filter form limits names) size = IsSizeOf rows size
-HasSize rows (commands.List version jobs filter form names) size = IsSizeOf rows size
+HasSize rows (Merge options) size = IsSizeOf rows size
+HasSize rows (Summary merge form limits) size = IsSizeOf rows size
+HasSize rows (commands.List merge form) size = IsSizeOf rows size
 HasSize rows (Extract version names) size = IsSizeOf rows size
 HasSize rows (Remove version names) size = IsSizeOf rows size
 HasSize rows (Gcov test names) size = size ≡ Limited
 HasSize rows (Check how jobs names) size = IsSizeOf rows size
 HasSize rows (Combine options) size = size ≡ Large
-HasSize rows (Html version jobs filter pages names) size = IsSizeOf rows size
+HasSize rows (Html merge pages) size = IsSizeOf rows size
 
 -- the word that clap found for `--output`, as it is, and `None` if the option isn't given
 abbrev pub IsOutputOf : List Row → Option (String Global) → Type 0
@@ -195,15 +197,15 @@ IsOutputOf rows output = first_of (codes "output") rows ≡ option_map string_by
 -- of `check` goes to standard output. `html` has no text, and names its folder itself
 abbrev pub GoesTo : List Row → Command → Option (String Global) → Type 0
 GoesTo rows Session output = output ≡ None
-GoesTo rows (Merge version jobs filter names) output = IsOutputOf rows output
-GoesTo rows (Summary version jobs filter form limits names) output = IsOutputOf rows output
-GoesTo rows (commands.List version jobs filter form names) output = IsOutputOf rows output
+GoesTo rows (Merge options) output = IsOutputOf rows output
+GoesTo rows (Summary merge form limits) output = IsOutputOf rows output
+GoesTo rows (commands.List merge form) output = IsOutputOf rows output
 GoesTo rows (Extract version names) output = IsOutputOf rows output
 GoesTo rows (Remove version names) output = IsOutputOf rows output
 GoesTo rows (Gcov test names) output = IsOutputOf rows output
 GoesTo rows (Check how jobs names) output = output ≡ None
 GoesTo rows (Combine options) output = IsOutputOf rows output
-GoesTo rows (Html version jobs filter pages names) output = output ≡ None
+GoesTo rows (Html merge pages) output = output ≡ None
 
 -- the rows of the subcommand that clap reads from the words of a call, and none for a session
 abbrev pub rows_met : Option (Text × List Row) → List Row
@@ -218,16 +220,20 @@ AsksForAll met asked = AsksFor met asked.command × HasStrictness (rows_met met)
 abbrev pub IsUpToIfAny : (most : ℕ) → Option ℕ → Type 0
 IsUpToIfAny most number = IfSome number (λ n. (1 ≤ n) × (n ≤ most))
 
+-- `merge` has 1 to 64 jobs and at least one name
+abbrev pub IsMergeInBounds : MergeOptions → Type 0
+IsMergeInBounds options = (1 ≤ options.jobs) × (options.jobs ≤ 64) × (1 ≤ length options.names)
+
 -- `merge`, `summary`, `list`, `check` and `html` have 1 to 64 jobs, and `combine` if it names a number. Each subcommand but `combine` has at
 -- least one name, and `extract` and `remove` have at least two
 abbrev pub IsInBounds : Command → Type 0
 IsInBounds Session = Unit {0}
-IsInBounds (Merge version jobs filter names) = (1 ≤ jobs) × (jobs ≤ 64) × (1 ≤ length names)
-IsInBounds (Summary version jobs filter form limits names) = (1 ≤ jobs) × (jobs ≤ 64) × (1 ≤ length names)
-IsInBounds (commands.List version jobs filter form names) = (1 ≤ jobs) × (jobs ≤ 64) × (1 ≤ length names)
+IsInBounds (Merge options) = IsMergeInBounds options
+IsInBounds (Summary merge form limits) = IsMergeInBounds merge
+IsInBounds (commands.List merge form) = IsMergeInBounds merge
 IsInBounds (Extract version names) = 2 ≤ length names
 IsInBounds (Remove version names) = 2 ≤ length names
 IsInBounds (Gcov test names) = 1 ≤ length names
 IsInBounds (Check how jobs names) = (1 ≤ jobs) × (jobs ≤ 64) × (1 ≤ length names)
 IsInBounds (Combine options) = IsUpToIfAny 64 options.jobs × IsUpToIfAny 1048576 options.expected
-IsInBounds (Html version jobs filter pages names) = (1 ≤ jobs) × (jobs ≤ 64) × (1 ≤ length names)
+IsInBounds (Html merge pages) = IsMergeInBounds merge

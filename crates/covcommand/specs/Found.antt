@@ -91,12 +91,12 @@ pub record Fits (name : Text) (rows : List Row) : Type 0 where
 -- these
 abbrev pub TellsFlags : List Row → Command → Type 0
 TellsFlags rows Session = Unit {0}
-TellsFlags rows (Merge version jobs filter names) = HasFlags rows
-TellsFlags rows (Summary version jobs filter form limits names) = HasFlags rows
-TellsFlags rows (commands.List version jobs filter form names) = HasFlags rows
+TellsFlags rows (Merge options) = HasFlags rows
+TellsFlags rows (Summary merge form limits) = HasFlags rows
+TellsFlags rows (commands.List merge form) = HasFlags rows
 TellsFlags rows (Extract version names) = HasFlags rows
 TellsFlags rows (Remove version names) = HasFlags rows
 TellsFlags rows (Gcov test names) = Unit {0}
 TellsFlags rows (Check how jobs names) = HasFlags rows
 TellsFlags rows (Combine options) = HasFlag (codes "strict") rows
-TellsFlags rows (Html version jobs filter pages names) = HasFlags rows
+TellsFlags rows (Html merge pages) = HasFlags rows

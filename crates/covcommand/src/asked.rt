@@ -22,43 +22,22 @@ pub enum Command {
     /// No subcommand: a session over standard input and output.
     Session,
     /// `merge`: the merged tracefile of the files.
-    Merge {
-        /// Which versions of tracefiles are read.
-        version: LcovVersion,
-        /// How many jobs read at once, from 1 to 64.
-        jobs: u32,
-        /// Which source files are printed.
-        filter: SourceFilter,
-        /// The files' paths, at least one.
-        names: Names,
-    },
+    Merge(MergeOptions),
     /// `summary`: how many lines, functions and branches are hit.
     Summary {
-        /// Which versions of tracefiles are read.
-        version: LcovVersion,
-        /// How many jobs read at once, from 1 to 64.
-        jobs: u32,
-        /// Which source files are counted.
-        filter: SourceFilter,
+        /// What is merged and counted.
+        merge: MergeOptions,
         /// How the totals are printed.
         form: TotalsForm,
         /// The thresholds.
         limits: Limits,
-        /// The files' paths, at least one.
-        names: Names,
     },
     /// `list`: how many lines, functions and branches are hit in each source file and in total (lcov(1), `--list`).
     List {
-        /// Which versions of tracefiles are read.
-        version: LcovVersion,
-        /// How many jobs read at once, from 1 to 64.
-        jobs: u32,
-        /// Which source files are listed.
-        filter: SourceFilter,
+        /// What is merged and listed.
+        merge: MergeOptions,
         /// How the totals are printed.
         form: TotalsForm,
-        /// The files' paths, at least one.
-        names: Names,
     },
     /// `extract`: the tracefile's sections of source files that match a pattern.
     Extract {
@@ -94,17 +73,24 @@ pub enum Command {
     Combine(CombineOptions),
     /// `html`: a folder of pages that show the coverage in a browser.
     Html {
-        /// Which versions of tracefiles are read.
-        version: LcovVersion,
-        /// How many jobs read at once, from 1 to 64.
-        jobs: u32,
-        /// Which source files are shown.
-        filter: SourceFilter,
+        /// What is merged and shown.
+        merge: MergeOptions,
         /// How the pages are written.
         pages: PageOptions,
-        /// The files' paths, at least one.
-        names: Names,
     },
+}
+
+/// The options that `merge`, `summary`, `list` and `html` have in common.
+#[derive(Drop)]
+pub struct MergeOptions {
+    /// Which versions of tracefiles are read.
+    pub version: LcovVersion,
+    /// How many jobs read at once, from 1 to 64.
+    pub jobs: u32,
+    /// Which source files are printed, counted, listed or shown.
+    pub filter: SourceFilter,
+    /// The files' paths, at least one.
+    pub names: Names,
 }
 
 /// The options of `combine`.

@@ -86,13 +86,13 @@ pub fn checks_by_their_words()
 /// without its option. After `--`, these options are names of files.
 pub fn filters_by_their_words()
     ensures merge { AsksFor (subcommand_of covcollect (codes "covcollect" ∷ codes "merge" ∷ codes "--include" ∷ codes "b" ∷ codes "--exclude" ∷ codes "x" ∷ codes "--include=a" ∷ codes "--exclude" ∷ codes "y" ∷ codes "f" ∷ []))
-        (Merge One 1 (record { includes = codes "b" ∷ codes "a" ∷ []; excludes = codes "x" ∷ codes "y" ∷ [] }) (codes "f" ∷ [])) }
+        (Merge (record { version = One; jobs = 1; filter = record { includes = codes "b" ∷ codes "a" ∷ []; excludes = codes "x" ∷ codes "y" ∷ [] }; names = codes "f" ∷ [] })) }
     ensures summary { AsksFor (subcommand_of covcollect (codes "covcollect" ∷ codes "summary" ∷ codes "f" ∷ codes "--exclude=x" ∷ codes "--lcov2" ∷ []))
-        (Summary Two 1 (record { includes = []; excludes = codes "x" ∷ [] }) Words (record { lines = None; functions = None; branches = None }) (codes "f" ∷ [])) }
+        (Summary (record { version = Two; jobs = 1; filter = record { includes = []; excludes = codes "x" ∷ [] }; names = codes "f" ∷ [] }) Words (record { lines = None; functions = None; branches = None })) }
     ensures neither { AsksFor (subcommand_of covcollect (codes "covcollect" ∷ codes "merge" ∷ codes "f" ∷ []))
-        (Merge One 1 (record { includes = []; excludes = [] }) (codes "f" ∷ [])) }
+        (Merge (record { version = One; jobs = 1; filter = record { includes = []; excludes = [] }; names = codes "f" ∷ [] })) }
     ensures name { AsksFor (subcommand_of covcollect (codes "covcollect" ∷ codes "merge" ∷ codes "--" ∷ codes "--include" ∷ codes "a" ∷ []))
-        (Merge One 1 (record { includes = []; excludes = [] }) (codes "--include" ∷ codes "a" ∷ [])) }
+        (Merge (record { version = One; jobs = 1; filter = record { includes = []; excludes = [] }; names = codes "--include" ∷ codes "a" ∷ [] })) }
 {}
 
 /// The form of `summary` and `list` is JSON with the flag `--json`, and text without the flag. A threshold of `summary` is the
@@ -100,13 +100,13 @@ pub fn filters_by_their_words()
 /// after `--` is a file's name.
 pub fn totals_by_their_words()
     ensures summary { AsksFor (subcommand_of covcollect (codes "covcollect" ∷ codes "summary" ∷ codes "--json" ∷ codes "--fail-under-lines" ∷ codes "80" ∷ codes "--fail-under-branches" ∷ codes "79.5" ∷ codes "a" ∷ []))
-        (Summary One 1 (record { includes = []; excludes = [] }) Json (record { lines = Some (codes "80"); functions = None; branches = Some (codes "79.5") }) (codes "a" ∷ [])) }
+        (Summary (record { version = One; jobs = 1; filter = record { includes = []; excludes = [] }; names = codes "a" ∷ [] }) Json (record { lines = Some (codes "80"); functions = None; branches = Some (codes "79.5") })) }
     ensures functions { AsksFor (subcommand_of covcollect (codes "covcollect" ∷ codes "summary" ∷ codes "a" ∷ codes "--fail-under-functions=x" ∷ []))
-        (Summary One 1 (record { includes = []; excludes = [] }) Words (record { lines = None; functions = Some (codes "x"); branches = None }) (codes "a" ∷ [])) }
+        (Summary (record { version = One; jobs = 1; filter = record { includes = []; excludes = [] }; names = codes "a" ∷ [] }) Words (record { lines = None; functions = Some (codes "x"); branches = None })) }
     ensures list { AsksFor (subcommand_of covcollect (codes "covcollect" ∷ codes "list" ∷ codes "--lcov2" ∷ codes "--include" ∷ codes "b" ∷ codes "--exclude" ∷ codes "x" ∷ codes "--json" ∷ codes "a" ∷ []))
-        (commands.List Two 1 (record { includes = codes "b" ∷ []; excludes = codes "x" ∷ [] }) Json (codes "a" ∷ [])) }
+        (commands.List (record { version = Two; jobs = 1; filter = record { includes = codes "b" ∷ []; excludes = codes "x" ∷ [] }; names = codes "a" ∷ [] }) Json) }
     ensures name { AsksFor (subcommand_of covcollect (codes "covcollect" ∷ codes "list" ∷ codes "--" ∷ codes "--json" ∷ []))
-        (commands.List One 1 (record { includes = []; excludes = [] }) Words (codes "--json" ∷ [])) }
+        (commands.List (record { version = One; jobs = 1; filter = record { includes = []; excludes = [] }; names = codes "--json" ∷ [] }) Words) }
 {}
 
 /// The output file of a command line is the argument of `--output` or `-o`: the next argument, or the text after `=` or joined to
@@ -114,7 +114,7 @@ pub fn totals_by_their_words()
 pub fn outputs_by_their_words()
     ensures merge { (output : Option (String Global)) → Some (codes "out") ≡ option_map string_bytes output
         → AsksForAll (subcommand_of covcollect (codes "covcollect" ∷ codes "merge" ∷ codes "-o" ∷ codes "out" ∷ codes "f" ∷ []))
-        (record { command = Merge One 1 (record { includes = []; excludes = [] }) (codes "f" ∷ []); strictness = Lenient; size = Limited; output = output }) }
+        (record { command = Merge (record { version = One; jobs = 1; filter = record { includes = []; excludes = [] }; names = codes "f" ∷ [] }); strictness = Lenient; size = Limited; output = output }) }
     ensures extract { (output : Option (String Global)) → Some (codes "out") ≡ option_map string_bytes output
         → AsksForAll (subcommand_of covcollect (codes "covcollect" ∷ codes "extract" ∷ codes "f" ∷ codes "p" ∷ codes "--output=out" ∷ []))
         (record { command = Extract One (codes "f" ∷ codes "p" ∷ []); strictness = Lenient; size = Limited; output = output }) }
@@ -128,7 +128,7 @@ pub fn outputs_by_their_words()
     ensures list { first_of (codes "output") (rows_met (subcommand_of covcollect (codes "covcollect" ∷ codes "list" ∷ codes "f" ∷ codes "-o=out" ∷ []))) ≡ Some (codes "out") }
     ensures dash { first_of (codes "output") (rows_met (subcommand_of covcollect (codes "covcollect" ∷ codes "merge" ∷ codes "--output=-o" ∷ codes "f" ∷ []))) ≡ Some (codes "-o") }
     ensures neither { AsksForAll (subcommand_of covcollect (codes "covcollect" ∷ codes "merge" ∷ codes "f" ∷ []))
-        (record { command = Merge One 1 (record { includes = []; excludes = [] }) (codes "f" ∷ []); strictness = Lenient; size = Limited; output = None }) }
+        (record { command = Merge (record { version = One; jobs = 1; filter = record { includes = []; excludes = [] }; names = codes "f" ∷ [] }); strictness = Lenient; size = Limited; output = None }) }
     ensures name { AsksForAll (subcommand_of covcollect (codes "covcollect" ∷ codes "extract" ∷ codes "f" ∷ codes "--" ∷ codes "-o" ∷ []))
         (record { command = Extract One (codes "f" ∷ codes "-o" ∷ []); strictness = Lenient; size = Limited; output = None }) }
     ensures check { AsksForAll (subcommand_of covcollect (codes "covcollect" ∷ codes "check" ∷ codes "f" ∷ []))
@@ -139,11 +139,11 @@ pub fn outputs_by_their_words()
 /// session and `gcov`, which don't have the flag, are lenient. An argument `--strict` after `--` is a file's name.
 pub fn strict_by_their_words()
     ensures merge { AsksForAll (subcommand_of covcollect (codes "covcollect" ∷ codes "merge" ∷ codes "--strict" ∷ codes "f" ∷ []))
-        (record { command = Merge One 1 (record { includes = []; excludes = [] }) (codes "f" ∷ []); strictness = Strict; size = Limited; output = None }) }
+        (record { command = Merge (record { version = One; jobs = 1; filter = record { includes = []; excludes = [] }; names = codes "f" ∷ [] }); strictness = Strict; size = Limited; output = None }) }
     ensures summary { AsksForAll (subcommand_of covcollect (codes "covcollect" ∷ codes "summary" ∷ codes "f" ∷ codes "--strict" ∷ codes "--json" ∷ []))
-        (record { command = Summary One 1 (record { includes = []; excludes = [] }) Json (record { lines = None; functions = None; branches = None }) (codes "f" ∷ []); strictness = Strict; size = Limited; output = None }) }
+        (record { command = Summary (record { version = One; jobs = 1; filter = record { includes = []; excludes = [] }; names = codes "f" ∷ [] }) Json (record { lines = None; functions = None; branches = None }); strictness = Strict; size = Limited; output = None }) }
     ensures list { AsksForAll (subcommand_of covcollect (codes "covcollect" ∷ codes "list" ∷ codes "--lcov2" ∷ codes "--strict" ∷ codes "f" ∷ codes "g" ∷ []))
-        (record { command = commands.List Two 1 (record { includes = []; excludes = [] }) Words (codes "f" ∷ codes "g" ∷ []); strictness = Strict; size = Limited; output = None }) }
+        (record { command = commands.List (record { version = Two; jobs = 1; filter = record { includes = []; excludes = [] }; names = codes "f" ∷ codes "g" ∷ [] }) Words; strictness = Strict; size = Limited; output = None }) }
     ensures extract { AsksForAll (subcommand_of covcollect (codes "covcollect" ∷ codes "extract" ∷ codes "f" ∷ codes "--strict" ∷ codes "p" ∷ []))
         (record { command = Extract One (codes "f" ∷ codes "p" ∷ []); strictness = Strict; size = Limited; output = None }) }
     ensures remove { AsksForAll (subcommand_of covcollect (codes "covcollect" ∷ codes "remove" ∷ codes "f" ∷ codes "p" ∷ codes "--strict" ∷ []))
@@ -161,7 +161,7 @@ pub fn strict_by_their_words()
     ensures session { AsksForAll (subcommand_of covcollect (codes "covcollect" ∷ []))
         (record { command = Session; strictness = Lenient; size = Limited; output = None }) }
     ensures name { AsksForAll (subcommand_of covcollect (codes "covcollect" ∷ codes "merge" ∷ codes "--" ∷ codes "--strict" ∷ []))
-        (record { command = Merge One 1 (record { includes = []; excludes = [] }) (codes "--strict" ∷ []); strictness = Lenient; size = Limited; output = None }) }
+        (record { command = Merge (record { version = One; jobs = 1; filter = record { includes = []; excludes = [] }; names = codes "--strict" ∷ [] }); strictness = Lenient; size = Limited; output = None }) }
 {}
 
 /// The size limit of a command line is `Large` with the flag `--large`, before, between or after other arguments, and `Limited`
@@ -169,11 +169,11 @@ pub fn strict_by_their_words()
 /// name.
 pub fn large_by_their_words()
     ensures merge { AsksForAll (subcommand_of covcollect (codes "covcollect" ∷ codes "merge" ∷ codes "--large" ∷ codes "f" ∷ []))
-        (record { command = Merge One 1 (record { includes = []; excludes = [] }) (codes "f" ∷ []); strictness = Lenient; size = Large; output = None }) }
+        (record { command = Merge (record { version = One; jobs = 1; filter = record { includes = []; excludes = [] }; names = codes "f" ∷ [] }); strictness = Lenient; size = Large; output = None }) }
     ensures summary { AsksForAll (subcommand_of covcollect (codes "covcollect" ∷ codes "summary" ∷ codes "f" ∷ codes "--large" ∷ codes "--json" ∷ []))
-        (record { command = Summary One 1 (record { includes = []; excludes = [] }) Json (record { lines = None; functions = None; branches = None }) (codes "f" ∷ []); strictness = Lenient; size = Large; output = None }) }
+        (record { command = Summary (record { version = One; jobs = 1; filter = record { includes = []; excludes = [] }; names = codes "f" ∷ [] }) Json (record { lines = None; functions = None; branches = None }); strictness = Lenient; size = Large; output = None }) }
     ensures list { AsksForAll (subcommand_of covcollect (codes "covcollect" ∷ codes "list" ∷ codes "--lcov2" ∷ codes "--large" ∷ codes "f" ∷ codes "g" ∷ []))
-        (record { command = commands.List Two 1 (record { includes = []; excludes = [] }) Words (codes "f" ∷ codes "g" ∷ []); strictness = Lenient; size = Large; output = None }) }
+        (record { command = commands.List (record { version = Two; jobs = 1; filter = record { includes = []; excludes = [] }; names = codes "f" ∷ codes "g" ∷ [] }) Words; strictness = Lenient; size = Large; output = None }) }
     ensures extract { AsksForAll (subcommand_of covcollect (codes "covcollect" ∷ codes "extract" ∷ codes "f" ∷ codes "--large" ∷ codes "p" ∷ []))
         (record { command = Extract One (codes "f" ∷ codes "p" ∷ []); strictness = Lenient; size = Large; output = None }) }
     ensures remove { AsksForAll (subcommand_of covcollect (codes "covcollect" ∷ codes "remove" ∷ codes "f" ∷ codes "p" ∷ codes "--large" ∷ []))
@@ -181,7 +181,7 @@ pub fn large_by_their_words()
     ensures check { AsksForAll (subcommand_of covcollect (codes "covcollect" ∷ codes "check" ∷ codes "--large" ∷ codes "--gcov" ∷ codes "f" ∷ []))
         (record { command = Check format.Gcov 1 (codes "f" ∷ []); strictness = Lenient; size = Large; output = None }) }
     ensures both { AsksForAll (subcommand_of covcollect (codes "covcollect" ∷ codes "merge" ∷ codes "--strict" ∷ codes "f" ∷ codes "--large" ∷ []))
-        (record { command = Merge One 1 (record { includes = []; excludes = [] }) (codes "f" ∷ []); strictness = Strict; size = Large; output = None }) }
+        (record { command = Merge (record { version = One; jobs = 1; filter = record { includes = []; excludes = [] }; names = codes "f" ∷ [] }); strictness = Strict; size = Large; output = None }) }
     ensures merge_without { IsSizeOf (rows_met (subcommand_of covcollect (codes "covcollect" ∷ codes "merge" ∷ codes "--lcov2" ∷ codes "--strict" ∷ codes "f" ∷ []))) Limited }
     ensures summary_without { IsSizeOf (rows_met (subcommand_of covcollect (codes "covcollect" ∷ codes "summary" ∷ codes "--json" ∷ codes "f" ∷ []))) Limited }
     ensures list_without { IsSizeOf (rows_met (subcommand_of covcollect (codes "covcollect" ∷ codes "list" ∷ codes "f" ∷ []))) Limited }
@@ -193,7 +193,7 @@ pub fn large_by_their_words()
     ensures session { AsksForAll (subcommand_of covcollect (codes "covcollect" ∷ []))
         (record { command = Session; strictness = Lenient; size = Limited; output = None }) }
     ensures name { AsksForAll (subcommand_of covcollect (codes "covcollect" ∷ codes "merge" ∷ codes "--" ∷ codes "--large" ∷ []))
-        (record { command = Merge One 1 (record { includes = []; excludes = [] }) (codes "--large" ∷ []); strictness = Lenient; size = Limited; output = None }) }
+        (record { command = Merge (record { version = One; jobs = 1; filter = record { includes = []; excludes = [] }; names = codes "--large" ∷ [] }); strictness = Lenient; size = Limited; output = None }) }
 {}
 
 /// What `combine` asks for: numbers that are given, a list of names, paths, a test, progress, patterns, the overview, thresholds and
@@ -226,10 +226,10 @@ pub fn words_are_spelled_out()
 pub fn shows_by_their_words()
     ensures few { (folder : String Global) → codes "out" ≡ string_bytes folder
         → AsksForAll (subcommand_of covcollect (codes "covcollect" ∷ codes "html" ∷ codes "f" ∷ codes "-o" ∷ codes "out" ∷ []))
-        (record { command = Html One 1 (record { includes = []; excludes = [] }) (record { folder = folder; texts = record { title = None; date = None; sources = [] } }) (codes "f" ∷ []); strictness = Lenient; size = Limited; output = None }) }
+        (record { command = Html (record { version = One; jobs = 1; filter = record { includes = []; excludes = [] }; names = codes "f" ∷ [] }) (record { folder = folder; texts = record { title = None; date = None; sources = [] } }); strictness = Lenient; size = Limited; output = None }) }
     ensures some { (folder : String Global) → codes "out" ≡ string_bytes folder
         → AsksForAll (subcommand_of covcollect (codes "covcollect" ∷ codes "html" ∷ codes "--output=out" ∷ codes "--title" ∷ codes "t" ∷ codes "--date" ∷ codes "d" ∷ codes "--source" ∷ codes "a=b" ∷ codes "--source" ∷ codes "c=d" ∷ codes "--strict" ∷ codes "f" ∷ codes "g" ∷ []))
-        (record { command = Html One 1 (record { includes = []; excludes = [] }) (record { folder = folder; texts = record { title = Some (codes "t"); date = Some (codes "d"); sources = codes "a=b" ∷ codes "c=d" ∷ [] } }) (codes "f" ∷ codes "g" ∷ []); strictness = Strict; size = Limited; output = None }) }
+        (record { command = Html (record { version = One; jobs = 1; filter = record { includes = []; excludes = [] }; names = codes "f" ∷ codes "g" ∷ [] }) (record { folder = folder; texts = record { title = Some (codes "t"); date = Some (codes "d"); sources = codes "a=b" ∷ codes "c=d" ∷ [] } }); strictness = Strict; size = Limited; output = None }) }
     ensures no_folder { fault_of covcollect (codes "covcollect" ∷ codes "html" ∷ codes "f" ∷ []) ≡ kind.MissingRequiredArgument ∷ [] }
     ensures json { fault_of covcollect (codes "covcollect" ∷ codes "html" ∷ codes "--json" ∷ codes "-o" ∷ codes "out" ∷ codes "f" ∷ []) ≡ kind.UnknownArgument ∷ [] }
 {}

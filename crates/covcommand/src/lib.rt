@@ -10,7 +10,7 @@
 //! pub fn merge_of(alloc: Global, words: &[String]) -> Result<Option<(u32, Names)>, CommandFault> {
 //!     let Asked { command, .. } = command(alloc, words)?;
 //!     match command {
-//!         Command::Merge { jobs, names, .. } => Ok(Some((jobs, names))),
+//!         Command::Merge(MergeOptions { jobs, names, .. }) => Ok(Some((jobs, names))),
 //!         _ => Ok(None),
 //!     }
 //! }
@@ -31,8 +31,8 @@ mod spelling;
 mod word;
 
 pub use asked::{
-    Asked, CombineOptions, Command, Limits, NameEnd, Overview, PageOptions, PageTexts, Progress,
-    SourceFilter, Strictness, TextFormat, TextSize, TotalsForm,
+    Asked, CombineOptions, Command, Limits, MergeOptions, NameEnd, Overview, PageOptions,
+    PageTexts, Progress, SourceFilter, Strictness, TextFormat, TextSize, TotalsForm,
 };
 pub use covdata::LcovVersion;
 pub use fault::CommandFault;

@@ -4,15 +4,15 @@ ghost use Rattle.std.specs.Prelude.{◌≡◌, ◌≢◌, ◌≤◌, ◌++◌, [
 ghost use Rattle.std.specs.String.{string_bytes};
 ghost use Rattle.clap.specs.Words.{rows_of, found_of, subcommand_of, takes, fault_of, first_of};
 ghost use Rattle.covcommand.specs.CommandLine.{covcollect};
-ghost use Rattle.covcommand.specs.Asked.{AreLimitsOf, ArePageTextsOf, ArePagesOf, AsksFor, AsksToCombine, GoesTo, HasSize, HasStrictness, IsFilterOf, IsFormOf, IsFormatOf, IsInBounds, IsNamesEndOf, IsNumberIfAny, IsNumberOf, IsOutputOf, IsOverviewOf, IsPathIfAny, IsProgressOf, IsSizeOf, IsStrictnessOf, IsTextIfAny, IsUpToIfAny, IsVersionOf, rows_met, tracefile_and_patterns, values_of};
-ghost use Rattle.covcommand.specs.Found.{Fits, HasCombining, HasFilter, HasFlag, HasFolder, HasJobs, HasNumberIfAny, HasSome, HasTest, TellsFlags};
+ghost use Rattle.covcommand.specs.Asked.{AreLimitsOf, ArePageTextsOf, ArePagesOf, AsksFor, AsksToCombine, AsksToMerge, GoesTo, HasSize, HasStrictness, IsFilterOf, IsFormOf, IsFormatOf, IsInBounds, IsMergeInBounds, IsNamesEndOf, IsNumberIfAny, IsNumberOf, IsOutputOf, IsOverviewOf, IsPathIfAny, IsProgressOf, IsSizeOf, IsStrictnessOf, IsTextIfAny, IsUpToIfAny, IsVersionOf, rows_met, tracefile_and_patterns, values_of};
+ghost use Rattle.covcommand.specs.Found.{Fits, HasCombining, HasFilter, HasFlag, HasFolder, HasJobs, HasMerging, HasNumberIfAny, HasSome, HasTest, TellsFlags};
 ghost use Rattle.covcommand.specs.Advice.{IsAdvised};
 ghost use Rattle.covcommand.specs.Fault.{IsFaultAmong};
 ghost use Rattle.covcommand.specs.declared.fault.CommandFault.TheVariants as faults;
 
 use crate::asked::{
-    Asked, CombineOptions, Command, Limits, NameEnd, Overview, PageOptions, PageTexts, Progress,
-    SourceFilter, Strictness, TextFormat, TextSize, TotalsForm,
+    Asked, CombineOptions, Command, Limits, MergeOptions, NameEnd, Overview, PageOptions,
+    PageTexts, Progress, SourceFilter, Strictness, TextFormat, TextSize, TotalsForm,
 };
 use crate::described::described;
 use crate::fault::CommandFault;
@@ -157,26 +157,15 @@ fn command_from(alloc: Global, name: &str, found: &ArgMatches<'_>) -> Result<Com
     ensures memory { IfErr result (λ f. f ≡ faults.Memory) }
 {
     match name {
-        "merge" => Ok(Command::Merge {
-            version: version_of(found),
-            jobs: jobs_of(found),
-            filter: source_filter_of(alloc, found)?,
-            names: files_of(alloc, found)?,
-        }),
+        "merge" => Ok(Command::Merge(merge_options_of(alloc, found)?)),
         "summary" => Ok(Command::Summary {
-            version: version_of(found),
-            jobs: jobs_of(found),
-            filter: source_filter_of(alloc, found)?,
+            merge: merge_options_of(alloc, found)?,
             form: form_of(found),
             limits: limits_of(alloc, found)?,
-            names: files_of(alloc, found)?,
         }),
         "list" => Ok(Command::List {
-            version: version_of(found),
-            jobs: jobs_of(found),
-            filter: source_filter_of(alloc, found)?,
+            merge: merge_options_of(alloc, found)?,
             form: form_of(found),
-            names: files_of(alloc, found)?,
         }),
         "extract" => Ok(Command::Extract {
             version: version_of(found),
@@ -197,13 +186,24 @@ fn command_from(alloc: Global, name: &str, found: &ArgMatches<'_>) -> Result<Com
         }),
         "combine" => Ok(Command::Combine(combine_options_of(alloc, found)?)),
         _ => Ok(Command::Html {
-            version: version_of(found),
-            jobs: jobs_of(found),
-            filter: source_filter_of(alloc, found)?,
+            merge: merge_options_of(alloc, found)?,
             pages: page_options_of(alloc, found)?,
-            names: files_of(alloc, found)?,
         }),
     }
+}
+
+/// The options that `merge`, `summary`, `list` and `html` have in common.
+fn merge_options_of(alloc: Global, found: &ArgMatches<'_>) -> Result<MergeOptions, Memory>
+    requires { HasMerging (rows_of (found_of found.now)) }
+    ensures asks { IfOk result (AsksToMerge (rows_of (found_of found.now))) }
+    ensures bounds { IfOk result IsMergeInBounds }
+{
+    Ok(MergeOptions {
+        version: version_of(found),
+        jobs: jobs_of(found),
+        filter: source_filter_of(alloc, found)?,
+        names: files_of(alloc, found)?,
+    })
 }
 
 /// The options of `combine`.

@@ -4,9 +4,9 @@
 //! proof. Functions append to a text and panic if memory runs out: each `?` would have to drop the text.
 
 use covcommand::{
-    Asked, CombineOptions, Command, CommandFault, LcovVersion, Limits, NameEnd, Names, Overview,
-    PageOptions, PageTexts, Progress, SourceFilter, Strictness, TextFormat, TextSize, TotalsForm,
-    command,
+    Asked, CombineOptions, Command, CommandFault, LcovVersion, Limits, MergeOptions, NameEnd,
+    Names, Overview, PageOptions, PageTexts, Progress, Strictness, TextFormat, TextSize,
+    TotalsForm, command,
 };
 use std::alloc::Global;
 use std::fmt::Write;
@@ -124,35 +124,21 @@ fn large_word(size: &TextSize) -> &'static str {
 fn put_command(rt: &impl Abort, text: &mut String, command: &Command) {
     match command {
         Command::Session => put(rt, text, "session"),
-        Command::Merge {
-            version,
-            jobs,
-            filter,
-            names,
-        } => {
-            put_inputs(rt, text, "merge", version, *jobs, filter);
-            put_names(rt, text, names);
+        Command::Merge(merge) => {
+            put_inputs(rt, text, "merge", merge);
+            put_names(rt, text, &merge.names);
         }
         Command::Summary {
-            version,
-            jobs,
-            filter,
+            merge,
             form,
             limits,
-            names,
         } => {
-            put_inputs(rt, text, "summary", version, *jobs, filter);
-            put_summary(rt, text, form, limits, names);
+            put_inputs(rt, text, "summary", merge);
+            put_summary(rt, text, form, limits, &merge.names);
         }
-        Command::List {
-            version,
-            jobs,
-            filter,
-            form,
-            names,
-        } => {
-            put_inputs(rt, text, "list", version, *jobs, filter);
-            put_list(rt, text, form, names);
+        Command::List { merge, form } => {
+            put_inputs(rt, text, "list", merge);
+            put_list(rt, text, form, &merge.names);
         }
         Command::Extract { version, names } => put_chosen(rt, text, "extract", version, names),
         Command::Remove { version, names } => put_chosen(rt, text, "remove", version, names),
@@ -163,16 +149,10 @@ fn put_command(rt: &impl Abort, text: &mut String, command: &Command) {
             names,
         } => put_check(rt, text, format, *jobs, names),
         Command::Combine(options) => put_combine(rt, text, options),
-        Command::Html {
-            version,
-            jobs,
-            filter,
-            pages,
-            names,
-        } => {
-            put_inputs(rt, text, "html", version, *jobs, filter);
+        Command::Html { merge, pages } => {
+            put_inputs(rt, text, "html", merge);
             put_pages(rt, text, pages);
-            put_names(rt, text, names);
+            put_names(rt, text, &merge.names);
         }
     }
 }
@@ -252,18 +232,11 @@ fn put_texts(rt: &impl Abort, text: &mut String, texts: &PageTexts) {
 }
 
 /// Appends `word`, in parentheses the LCOV version and the number of jobs, and then the source filter.
-fn put_inputs(
-    rt: &impl Abort,
-    text: &mut String,
-    word: &str,
-    version: &LcovVersion,
-    jobs: u32,
-    filter: &SourceFilter,
-) {
-    put_head(rt, text, word, version_word(version));
-    put_jobs(rt, text, jobs);
-    put_each(rt, text, " +[", &filter.includes);
-    put_each(rt, text, " -[", &filter.excludes);
+fn put_inputs(rt: &impl Abort, text: &mut String, word: &str, merge: &MergeOptions) {
+    put_head(rt, text, word, version_word(&merge.version));
+    put_jobs(rt, text, merge.jobs);
+    put_each(rt, text, " +[", &merge.filter.includes);
+    put_each(rt, text, " -[", &merge.filter.excludes);
 }
 
 /// Appends `word`, an opening parenthesis and `first`.

@@ -289,15 +289,15 @@ totals_are_text forms.Json limits choice = tt
 
 asks_text_of : (command : Command) (strictness : Strictness) (size : TextSize) → AsksText (task_of command strictness size)
 asks_text_of commands.Session strictness size = tt
-asks_text_of (commands.Merge version jobs filter names) strictness size = report_or_chosen (choice_of filter)
-asks_text_of (commands.Summary version jobs filter form limits names) strictness size = totals_are_text form (limits_of limits) (choice_of filter)
-asks_text_of (commands.List version jobs filter form names) strictness size = tt
+asks_text_of (commands.Merge merge) strictness size = report_or_chosen (choice_of merge.filter)
+asks_text_of (commands.Summary merge form limits) strictness size = totals_are_text form (limits_of limits) (choice_of merge.filter)
+asks_text_of (commands.List merge form) strictness size = tt
 asks_text_of (commands.Extract version names) strictness size = tt
 asks_text_of (commands.Remove version names) strictness size = tt
 asks_text_of (commands.Gcov test names) strictness size = tt
 asks_text_of (commands.Check format jobs names) strictness size = tt
 asks_text_of (commands.Combine options) strictness size = tt
-asks_text_of (commands.Html version jobs filter pages names) strictness size = tt
+asks_text_of (commands.Html merge pages) strictness size = tt
 
 -- the last operation of each subcommand that collects files asks for a text
 pub asks_text : (command : Command) (strictness : Strictness) (size : TextSize) (work : WorkData) → Collects work ≡ task_of command strictness size → IsText (last_of work.asks)

@@ -11,6 +11,7 @@ use Rattle.covcommand.specs.declared.asked.CombineOptions.{CombineOptions}
 use Rattle.covcommand.specs.declared.asked.Command.{Command}
 use Rattle.covcommand.specs.declared.asked.Command.TheVariants.{Session, Merge, Summary, List as ListFiles, Extract, Remove, Gcov, Check, Combine, Html}
 use Rattle.covcommand.specs.declared.asked.Limits.{Limits}
+use Rattle.covcommand.specs.declared.asked.MergeOptions.{MergeOptions}
 use Rattle.covcommand.specs.declared.asked.PageOptions.{PageOptions}
 use Rattle.covcommand.specs.declared.asked.TotalsForm.{TotalsForm}
 use Rattle.covcommand.specs.declared.asked.TotalsForm.TheVariants as forms
@@ -98,6 +99,11 @@ checked_as Limited format = checked.Text format
 checked_as Large (texts.Tracefile version) = checked.LargeTracefile version
 checked_as Large texts.Gcov = checked.Text texts.Gcov
 
+-- the work of `merge`, `summary`, `list` and `html`: the names are tracefiles'
+abbrev pub merging : MergeOptions → Strictness → TextSize → QuestionData → WorkData
+merging merge strictness size asks =
+    record { files = merge.names; format = tracefiles size merge.version; strictness = strictness; jobs = merge.jobs; asks = asks }
+
 -- the work of `extract` and `remove`: the first name is the tracefile's, and the other names are patterns
 abbrev pub filtering : FileFormat → Strictness → (List (List ℕ) → OpData) → List (List ℕ) → WorkData
 filtering format strictness op names =
@@ -115,20 +121,18 @@ pub data TaskData : Type 0 where
 -- what each subcommand has to do; a call without a subcommand is a session
 abbrev pub task_of : Command → Strictness → TextSize → TaskData
 task_of Session strictness size = Serves
-task_of (Merge version jobs filter names) strictness size =
-    Collects (record { files = names; format = tracefiles size version; strictness = strictness; jobs = jobs; asks = asked_of ReportOp ChosenReport (choice_of filter) })
-task_of (Summary version jobs filter form limits names) strictness size =
-    Collects (record { files = names; format = tracefiles size version; strictness = strictness; jobs = jobs; asks = summary_asked form (limits_of limits) (choice_of filter) })
-task_of (ListFiles version jobs filter form names) strictness size =
-    Collects (record { files = names; format = tracefiles size version; strictness = strictness; jobs = jobs; asks = ChosenList form (chosen_or_all (choice_of filter)) })
+task_of (Merge merge) strictness size = Collects (merging merge strictness size (asked_of ReportOp ChosenReport (choice_of merge.filter)))
+task_of (Summary merge form limits) strictness size =
+    Collects (merging merge strictness size (summary_asked form (limits_of limits) (choice_of merge.filter)))
+task_of (ListFiles merge form) strictness size = Collects (merging merge strictness size (ChosenList form (chosen_or_all (choice_of merge.filter))))
 task_of (Extract version names) strictness size = Collects (filtering (tracefiles size version) strictness ExtractOp names)
 task_of (Remove version names) strictness size = Collects (filtering (tracefiles size version) strictness RemoveOp names)
 task_of (Gcov test names) strictness size =
     Collects (record { files = names; format = GcovOutput test; strictness = strictness; jobs = 1; asks = Answer ReportOp })
 task_of (Check format jobs names) strictness size = Checks (checked_as size format) strictness jobs names
 task_of (Combine options) strictness size = Combines options strictness
-task_of (Html version jobs filter pages names) strictness size =
-    Shows (record { files = names; format = tracefiles size version; strictness = strictness; jobs = jobs; asks = ChosenList forms.Words (chosen_or_all (choice_of filter)) }) pages
+task_of (Html merge pages) strictness size =
+    Shows (merging merge strictness size (ChosenList forms.Words (chosen_or_all (choice_of merge.filter)))) pages
 
 -- a file's text as an input of collecting: a tracefile of this version of lcov, or gcov's text of this test
 abbrev pub input_of : FileFormat → List ℕ → InputData
@@ -190,28 +194,28 @@ IsSummaryFault filter limits fault = IsFilterFault filter fault ⊎ (IsFilter fi
 -- the patterns, the limits and the test's name are accepted. `combine` looks at its options itself
 abbrev pub AreTaken : Command → Type 0
 AreTaken Session = Unit {0}
-AreTaken (Merge version jobs filter names) = IsFilter filter
-AreTaken (Summary version jobs filter form limits names) = IsFilter filter × AreRates (limits_of limits)
-AreTaken (ListFiles version jobs filter form names) = IsFilter filter
+AreTaken (Merge merge) = IsFilter merge.filter
+AreTaken (Summary merge form limits) = IsFilter merge.filter × AreRates (limits_of limits)
+AreTaken (ListFiles merge form) = IsFilter merge.filter
 AreTaken (Extract version names) = ArePatterns (drop 1 names)
 AreTaken (Remove version names) = ArePatterns (drop 1 names)
 AreTaken (Gcov test names) = IsGoodTest test
 AreTaken (Check format jobs names) = Unit {0}
 AreTaken (Combine options) = Unit {0}
-AreTaken (Html version jobs filter pages names) = IsFilter filter × AreRules pages.texts.sources
+AreTaken (Html merge pages) = IsFilter merge.filter × AreRules pages.texts.sources
 
 -- a pattern, a limit or the test's name is refused for this reason
 abbrev pub AreRefused : Command → ArgumentFault → Type 0
 AreRefused Session fault = ⊥
-AreRefused (Merge version jobs filter names) fault = IsFilterFault filter fault
-AreRefused (Summary version jobs filter form limits names) fault = IsSummaryFault filter (limits_of limits) fault
-AreRefused (ListFiles version jobs filter form names) fault = IsFilterFault filter fault
+AreRefused (Merge merge) fault = IsFilterFault merge.filter fault
+AreRefused (Summary merge form limits) fault = IsSummaryFault merge.filter (limits_of limits) fault
+AreRefused (ListFiles merge form) fault = IsFilterFault merge.filter fault
 AreRefused (Extract version names) fault = IsPatternFault (drop 1 names) fault
 AreRefused (Remove version names) fault = IsPatternFault (drop 1 names) fault
 AreRefused (Gcov test names) fault = IsTestFault test fault
 AreRefused (Check format jobs names) fault = ⊥
 AreRefused (Combine options) fault = ⊥
-AreRefused (Html version jobs filter pages names) fault = IsShowFault filter pages.texts.sources fault
+AreRefused (Html merge pages) fault = IsShowFault merge.filter pages.texts.sources fault
 
 -- a list of source files is asked for
 abbrev pub AsksList : QuestionData → Type 0

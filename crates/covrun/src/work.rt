@@ -4,8 +4,8 @@ use crate::argument_fault::ArgumentFault;
 use crate::question::Question;
 use covbook::Op;
 use covcommand::{
-    CombineOptions, Command, LcovVersion, Limits as LimitWords, Names, PageOptions, SourceFilter,
-    Strictness, TextFormat, TextSize, TotalsForm,
+    CombineOptions, Command, LcovVersion, Limits as LimitWords, MergeOptions, Names, PageOptions,
+    SourceFilter, Strictness, TextFormat, TextSize, TotalsForm,
 };
 use covdata::{Bytes, Memory, good_test};
 use covlist::{Limits, Rate};
@@ -127,12 +127,13 @@ ghost use Rattle.std.specs.Prelude.{◌≡◌, map, option_map, take, drop, IfOk
 ghost use Rattle.std.specs.String.{string_bytes};
 ghost use Rattle.covdata.specs.Lawful.{IsGoodTest};
 ghost use Rattle.covpages.specs.Sources.{AreRules};
+ghost use Rattle.covcommand.specs.declared.asked.Command.TheVariants as commands;
 ghost use Rattle.covreport.specs.ChoiceView.{choice_data};
-ghost use Rattle.covrun.specs.View.{question_data, task_data};
+ghost use Rattle.covrun.specs.View.{question_data, task_data, work_data};
 ghost use Rattle.covlist.specs.LimitsView.{limits_data};
 ghost use Rattle.covbook.specs.Op.{ExtractOp, RemoveOp, ReportOp};
 ghost use Rattle.covrun.specs.declared.work.FileFormat.TheVariants.{GcovOutput};
-ghost use Rattle.covrun.specs.Work.{Answer, filtering, choice_of, limits_of, checked_as as checked_as_of, task_of, tracefiles as tracefiles_of, ArePatterns, AreRates, AreTaken, Checks, Collects, IsFilter, IsRateIfAny};
+ghost use Rattle.covrun.specs.Work.{Answer, filtering, choice_of, limits_of, checked_as as checked_as_of, merging as merging_of, task_of, tracefiles as tracefiles_of, ArePatterns, AreRates, AreTaken, Checks, Collects, IsFilter, IsRateIfAny};
 ghost use Rattle.covrun.specs.WorkFault.{IsRefusal, IsFilterRefusal, IsLimitRefusal, IsPatternRefusal, IsRuleRefusal, IsTestRefusal};
 ghost use Rattle.covrun.specs.declared.argument_fault.ArgumentFault.TheVariants as arguments;
 ghost use Rattle.covrun.specs.declared.work.WorkFault.TheVariants as faults;
@@ -150,37 +151,13 @@ pub(crate) fn task_for(
 {
     match command {
         Command::Session => Ok(Task::Session),
-        Command::Merge {
-            version,
-            jobs,
-            filter,
-            names,
-        } => {
-            let report = Question::report(chosen_files(alloc, &filter)?);
-            Ok(over_tracefiles(names, tracefiles(size, version), strictness, jobs, report))
-        }
+        Command::Merge(merge) => report_task(alloc, merge, strictness, size),
         Command::Summary {
-            version,
-            jobs,
-            filter,
+            merge,
             form,
             limits,
-            names,
-        } => {
-            let choice = chosen_files(alloc, &filter)?;
-            let summary = Question::summary(form, rates(limits)?, choice);
-            Ok(over_tracefiles(names, tracefiles(size, version), strictness, jobs, summary))
-        }
-        Command::List {
-            version,
-            jobs,
-            filter,
-            form,
-            names,
-        } => {
-            let list = Question::list(form, chosen_files(alloc, &filter)?);
-            Ok(over_tracefiles(names, tracefiles(size, version), strictness, jobs, list))
-        }
+        } => summary_task(alloc, merge, form, limits, strictness, size),
+        Command::List { merge, form } => list_task(alloc, merge, form, strictness, size),
         Command::Extract { version, names } => {
             extraction(alloc, tracefiles(size, version), strictness, &names)
         }
@@ -197,24 +174,89 @@ pub(crate) fn task_for(
             options,
             strictness,
         }),
-        Command::Html {
-            version,
-            jobs,
-            filter,
-            pages,
-            names,
-        } => {
-            let asks = Question::list(TotalsForm::Words, chosen_files(alloc, &filter)?);
-            check_rules(pages.texts.sources.get())?;
-            let work = Work {
-                files: names,
-                format: tracefiles(size, version),
-                strictness,
-                jobs,
-                asks,
-            };
-            Ok(Task::Show { work, pages })
-        }
+        Command::Html { merge, pages } => pages_task(alloc, merge, pages, strictness, size),
+    }
+}
+
+/// The task of `merge`.
+fn report_task(
+    alloc: Global,
+    merge: MergeOptions,
+    strictness: Strictness,
+    size: TextSize,
+) -> Result<Task, WorkFault>
+    ensures task { IfOk result (λ task. task_data task ≡ task_of (commands.Merge merge) strictness size) }
+    ensures taken { IfOk result (λ _. AreTaken (commands.Merge merge)) }
+    ensures refused { IfErr result (IsRefusal (commands.Merge merge)) }
+{
+    let report = Question::report(chosen_files(alloc, &merge.filter)?);
+    Ok(Task::Collect(merging(merge, strictness, size, report)))
+}
+
+/// The task of `summary`.
+fn summary_task(
+    alloc: Global,
+    merge: MergeOptions,
+    form: TotalsForm,
+    limits: LimitWords,
+    strictness: Strictness,
+    size: TextSize,
+) -> Result<Task, WorkFault>
+    ensures task { IfOk result (λ task. task_data task ≡ task_of (commands.Summary merge form limits) strictness size) }
+    ensures taken { IfOk result (λ _. AreTaken (commands.Summary merge form limits)) }
+    ensures refused { IfErr result (IsRefusal (commands.Summary merge form limits)) }
+{
+    let choice = chosen_files(alloc, &merge.filter)?;
+    let summary = Question::summary(form, rates(limits)?, choice);
+    Ok(Task::Collect(merging(merge, strictness, size, summary)))
+}
+
+/// The task of `list`.
+fn list_task(
+    alloc: Global,
+    merge: MergeOptions,
+    form: TotalsForm,
+    strictness: Strictness,
+    size: TextSize,
+) -> Result<Task, WorkFault>
+    ensures task { IfOk result (λ task. task_data task ≡ task_of (commands.List merge form) strictness size) }
+    ensures taken { IfOk result (λ _. AreTaken (commands.List merge form)) }
+    ensures refused { IfErr result (IsRefusal (commands.List merge form)) }
+{
+    let list = Question::list(form, chosen_files(alloc, &merge.filter)?);
+    Ok(Task::Collect(merging(merge, strictness, size, list)))
+}
+
+/// The task of `html`.
+fn pages_task(
+    alloc: Global,
+    merge: MergeOptions,
+    pages: PageOptions,
+    strictness: Strictness,
+    size: TextSize,
+) -> Result<Task, WorkFault>
+    ensures task { IfOk result (λ task. task_data task ≡ task_of (commands.Html merge pages) strictness size) }
+    ensures taken { IfOk result (λ _. AreTaken (commands.Html merge pages)) }
+    ensures refused { IfErr result (IsRefusal (commands.Html merge pages)) }
+{
+    let list = Question::list(TotalsForm::Words, chosen_files(alloc, &merge.filter)?);
+    check_rules(pages.texts.sources.get())?;
+    Ok(Task::Show {
+        work: merging(merge, strictness, size, list),
+        pages,
+    })
+}
+
+/// The work of merging tracefiles, after which `asks` is answered.
+fn merging(merge: MergeOptions, strictness: Strictness, size: TextSize, asks: Question) -> Work
+    ensures { work_data result ≡ merging_of merge strictness size (question_data asks) }
+{
+    Work {
+        files: merge.names,
+        format: tracefiles(size, merge.version),
+        strictness,
+        jobs: merge.jobs,
+        asks,
     }
 }
 
@@ -238,21 +280,15 @@ fn checked_as(size: TextSize, format: TextFormat) -> CheckedFormat
     }
 }
 
-/// The task of collecting these tracefiles.
-fn over_tracefiles(
-    files: Names,
-    format: FileFormat,
-    strictness: Strictness,
-    jobs: u32,
-    asks: Question,
-) -> Task
-    ensures { task_data result ≡ Collects (record { files = files; format = format; strictness = strictness; jobs = jobs; asks = question_data asks }) }
+/// The task of collecting a tracefile.
+fn over_tracefile(files: Names, format: FileFormat, strictness: Strictness, asks: Question) -> Task
+    ensures { task_data result ≡ Collects (record { files = files; format = format; strictness = strictness; jobs = 1; asks = question_data asks }) }
 {
     Task::Collect(Work {
         files,
         format,
         strictness,
-        jobs,
+        jobs: 1,
         asks,
     })
 }
@@ -270,7 +306,7 @@ fn extraction(
 {
     let (files, patterns) = split(alloc, names)?;
     let extract = Question::Answer(Op::Extract(patterns));
-    Ok(over_tracefiles(files, format, strictness, 1, extract))
+    Ok(over_tracefile(files, format, strictness, extract))
 }
 
 /// The task of `remove` for these arguments: the name of a tracefile, and then patterns.
@@ -286,7 +322,7 @@ fn removal(
 {
     let (files, patterns) = split(alloc, names)?;
     let remove = Question::Answer(Op::Remove(patterns));
-    Ok(over_tracefiles(files, format, strictness, 1, remove))
+    Ok(over_tracefile(files, format, strictness, remove))
 }
 
 /// The task of collecting gcov's output under this test name.

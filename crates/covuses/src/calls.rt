@@ -7,7 +7,7 @@ ghost use Rattle.covcommand.specs.CommandLine.{covcollect};
 ghost use Rattle.covcommand.specs.Fault.{IsFaultAmong};
 ghost use Rattle.covuses.specs.Merge.{AsksForMerge};
 
-use covcommand::{Asked, Command, CommandFault, Names, command};
+use covcommand::{Asked, Command, CommandFault, MergeOptions, Names, command};
 use std::alloc::Global;
 
 /// Parses a command line. Returns a merge's number of jobs and file names, or `None` if the command isn't a merge.
@@ -17,7 +17,7 @@ pub fn merge_of(alloc: Global, words: &[String]) -> Result<Option<(u32, Names)>,
 {
     let Asked { command, .. } = command(alloc, words)?;
     match command {
-        Command::Merge { jobs, names, .. } => Ok(Some((jobs, names))),
+        Command::Merge(MergeOptions { jobs, names, .. }) => Ok(Some((jobs, names))),
         _ => Ok(None),
     }
 }

@@ -3,7 +3,7 @@ use Rattle.std.proofs.lemmas.Slice.Eq.{bytes_eq-Decides}
 use Rattle.std.specs.Str.{bytes_eq}
 use Rattle.clap.specs.Walk.{Row, Text}
 use Rattle.clap.specs.Words.{found_of, rows_of}
-use Rattle.covcommand.specs.Found.{HasFolder, HasJobs, HasShowing}
+use Rattle.covcommand.specs.Found.{HasFolder, HasMerging, HasShowing}
 use Rattle.covcommand.proofs.parsing.command_from.Goals as goal
 
 isnt : (found : Bool) → (found ≡ true → ⊥) → found ≡ false
@@ -14,17 +14,17 @@ isnt false never = refl
 unlike : (name other : Text) → (name ≡ other → ⊥) → bytes_eq name other ≡ false
 unlike name other never = isnt (bytes_eq name other) (λ is. never ((bytes_eq-Decides name other).0 is))
 
--- `html` has a number of jobs and a folder
-jobs_shown : (name : Text) (rows : List Row) → (name ≡ codes "html") × HasShowing rows → HasJobs rows
-jobs_shown name rows (is, (folder, (flags, jobs, files))) = jobs
+-- `html` has what `merge` has, and a folder
+merging_shown : (name : Text) (rows : List Row) → (name ≡ codes "html") × HasShowing rows → HasMerging rows
+merging_shown name rows (is, (folder, merging)) = merging
 
 folder_shown : (name : Text) (rows : List Row) → (name ≡ codes "html") × HasShowing rows → HasFolder rows
 folder_shown name rows (is, (folder, merging)) = folder
 
-pub jobs_of-requires-in_default : goal.jobs_of-requires-in_default
-jobs_of-requires-in_default c =
+pub merge_options_of-requires-in_default : goal.merge_options_of-requires-in_default
+merge_options_of-requires-in_default c =
     let name = c.args.name.now in
-    jobs_shown name (rows_of (found_of c.args.found.now))
+    merging_shown name (rows_of (found_of c.args.found.now))
     (c.requires.others (unlike name (codes "merge") c.in_default.not-merge) (unlike name (codes "summary") c.in_default.not-summary)
     (unlike name (codes "list") c.in_default.not-list) (unlike name (codes "extract") c.in_default.not-extract)
     (unlike name (codes "remove") c.in_default.not-remove) (unlike name (codes "gcov") c.in_default.not-gcov)
