@@ -1,0 +1,2 @@
+const { half } = require("./half.js");
+require("node:test").test("half", () => half(3));
