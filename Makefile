@@ -11,7 +11,7 @@ all: build/covcollect
 
 # One line says what is missing, and no target goes on without it.
 toolchain:
-	@command -v rt >/dev/null 2>&1 || { echo "covcollect: the Rattle toolchain's command 'rt' isn't on PATH (rattle-kit-13b or later is wanted)" >&2; exit 1; }
+	@command -v rt >/dev/null 2>&1 || { echo "covcollect: the Rattle toolchain's command 'rt' isn't on PATH (rattle-kit-13f is wanted)" >&2; exit 1; }
 
 # There is a line for each crate; the prover's own words go to build/log. After 'make prove' has passed, the program is there.
 build/covcollect: toolchain

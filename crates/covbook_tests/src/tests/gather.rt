@@ -7,7 +7,7 @@ use covbook::{
     Answer, Book, Entry, GatherFault, JobLog, Logs, Reading, Readings, Receipt, Receipts,
 };
 use covreport::Table;
-use covstore::Store;
+use covrows::Rows;
 use covtable::Totals;
 use std::alloc::Global;
 use std::process::Abort;
@@ -298,13 +298,13 @@ fn check_whole<T: Table<Global>>(
     Ok(())
 }
 
-/// `check_whole` with a book over a `Store`.
+/// `check_whole` with a book over a `Rows`.
 fn check_in_store(
     rt: &(impl Abort + AllocGlobal),
     steps: &[Step<'_>],
     examples: &[Example<'_>],
 ) -> Result<(), Fail> {
-    check_whole::<Store>(rt, steps, examples)
+    check_whole::<Rows>(rt, steps, examples)
 }
 
 #[test]
@@ -394,7 +394,7 @@ fn check_shortened<T: Table<Global>>(rt: &(impl Abort + AllocGlobal)) -> Result<
 
 #[test]
 fn a_shorter_history(rt: HostRuntime) -> Result<(), Fail> {
-    check_shortened::<Store>(&rt)
+    check_shortened::<Rows>(&rt)
 }
 
 /// All entries but the last one.

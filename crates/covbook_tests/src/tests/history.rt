@@ -5,7 +5,7 @@ use super::words::op_of;
 use super::wrappers::{entries, ready, step, totals};
 use covbook::{Book, BookFault, Op, Ready};
 use covreport::Table;
-use covstore::Store;
+use covrows::Rows;
 use std::alloc::Global;
 use std::process::Abort;
 use std::test::*;
@@ -65,7 +65,7 @@ fn check_new<T: Table<Global>>(
 #[test]
 fn histories(rt: HostRuntime) -> Result<(), Fail> {
     for steps in [TEXTS, CLASHES, DROPS, PACKED] {
-        check_new::<Store>(&rt, steps)?;
+        check_new::<Rows>(&rt, steps)?;
     }
     Ok(())
 }
@@ -115,7 +115,7 @@ fn check_halves<T: Table<Global>>(rt: &(impl Abort + AllocGlobal)) -> Result<(),
 /// A step can be done in two halves. Without the second half, the step has no effect.
 #[test]
 fn halves_of_a_step(rt: HostRuntime) -> Result<(), Fail> {
-    check_halves::<Store>(&rt)
+    check_halves::<Rows>(&rt)
 }
 
 /// Whether the book's next step, a summary, gets this index or this error.
@@ -143,7 +143,7 @@ fn check_full<T: Table<Global>>(rt: &(impl Abort + AllocGlobal)) {
 /// A history can have 1,048,576 entries and no more.
 #[test]
 fn a_full_book(rt: HostRuntime) {
-    check_full::<Store>(&rt);
+    check_full::<Rows>(&rt);
 }
 
 #[test]

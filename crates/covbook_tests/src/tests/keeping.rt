@@ -5,7 +5,7 @@ use super::steps::check_answer;
 use super::words::op_of;
 use covbook::{Answered, Book, Op};
 use covreport::Table;
-use covstore::Store;
+use covrows::Rows;
 use std::alloc::Global;
 use std::process::Abort;
 use std::test::*;
@@ -66,5 +66,5 @@ fn check_keeping<T: Table<Global>>(rt: &(impl Abort + AllocGlobal)) -> Result<()
 
 #[test]
 fn a_book_that_keeps_answers(rt: HostRuntime) -> Result<(), Fail> {
-    check_keeping::<Store>(&rt)
+    check_keeping::<Rows>(&rt)
 }

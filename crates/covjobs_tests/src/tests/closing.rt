@@ -7,7 +7,7 @@ use super::said::check_entries;
 use super::wrappers::{close, none};
 use covjobs::{CloseFault, Name, Seat, Seats, Shared, Start};
 use covreport::Table;
-use covstore::Store;
+use covrows::Rows;
 use std::alloc::Global;
 use std::marker::Brand;
 use std::process::Abort;
@@ -101,5 +101,5 @@ fn kept_back<L: Name, R: Wait + Abort + AllocGlobal, T: Table<Global>>(rt: &R, s
 
 #[test]
 fn seats_kept_back(rt: HostRuntime) {
-    kept_back::<Brand, _, Store>(&rt, started(&rt, rt.alloc(), 2));
+    kept_back::<Brand, _, Rows>(&rt, started(&rt, rt.alloc(), 2));
 }

@@ -5,8 +5,8 @@ use super::check_bytes;
 use super::said::check_entries;
 use covbook::{Answer, Entry, JobLog, Op, PackedRef, SubRef};
 use covdata::{Bytes, ReadFault};
-use covjobs::Input;
-use covnamed::{collect, collect_owned};
+use covjobs::{Input, collect, collect_owned};
+use covrows::Rows;
 use covworkers::{CollectFault, Collected, Gate, NoGate, RefusedInput};
 use std::alloc::Global;
 use std::process::Abort;
@@ -59,7 +59,7 @@ pub(super) fn answered<R: Threads + Wait + Sync + AllocGlobal, G: Gate + Sync>(
     jobs: u32,
     gate: &G,
 ) -> Result<Collected, CollectFault> {
-    collect(rt, rt.alloc(), inputs, last, jobs, gate)
+    collect::<R, G, Rows>(rt, rt.alloc(), inputs, last, jobs, gate)
 }
 
 /// Collects the inputs with `jobs` jobs and the last operation `last`. Panics on an error.
@@ -242,7 +242,7 @@ pub(super) fn answered_by_owned<R: Threads + Wait + Sync + AllocGlobal>(
     inputs: Vec<Input>,
     jobs: u32,
 ) -> Result<Collected, CollectFault> {
-    collect_owned(rt, rt.alloc(), inputs, &Op::Report, jobs, &NoGate)
+    collect_owned::<R, NoGate, Rows>(rt, rt.alloc(), inputs, &Op::Report, jobs, &NoGate)
 }
 
 /// Checks that the answer of the last entry is the text `wanted`.

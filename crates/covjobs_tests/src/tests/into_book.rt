@@ -9,7 +9,7 @@ use covbook::Op;
 use covdata::{Bytes, ReadFault};
 use covjobs::Input;
 use covreport::Table;
-use covstore::Store;
+use covrows::Rows;
 use covworkers::{
     CollectFault, CollectedBook, Given, IntoBookFault, LateFault, LateInput, NoGate, Part,
     collect_into_book,
@@ -20,8 +20,8 @@ use std::sync::Wait;
 use std::test::*;
 use std::thread::Threads;
 
-/// An input with one part per letter: `s` is the small tracefile, `o` is `OTHERS`, `1` and `2` are `ONE` and `TWO`, and `x` is
-/// invalid. At `?` or without a letter, the input can't be read. At `!`, memory runs out.
+/// An input with one part per letter: `s` is the small tracefile, `e` is an empty one, `o` is `OTHERS`, `1` and `2` are `ONE` and
+/// `TWO`, and `x` is invalid. At `?` or without a letter, the input can't be read. At `!`, memory runs out.
 #[derive(Drop)]
 struct Letters<'a> {
     parts: &'a [u8],
@@ -62,6 +62,7 @@ const TWO: &[u8] = b"TN:t\nSF:/a.c\nDA:7,1,two\nend_of_record\n";
 fn text_of(letter: u8) -> &'static [u8] {
     match letter {
         b's' => SMALL,
+        b'e' => b"",
         b'o' => OTHERS,
         b'1' => ONE,
         b'2' => TWO,
@@ -165,7 +166,7 @@ fn check_added_up<
 #[test]
 fn collected_into_a_book(rt: HostRuntime) {
     for (inputs, jobs) in [("sos x", 1), ("s osxs", 1), ("s ox s", 2), ("s x o s", 3)] {
-        check_added_up::<_, Store>(&rt, inputs, jobs);
+        check_added_up::<_, Rows>(&rt, inputs, jobs);
     }
 }
 
@@ -189,7 +190,7 @@ fn check_order<
 /// Entries come in the order of the parts.
 #[test]
 fn the_order_of_parts(rt: HostRuntime) {
-    check_order::<_, Store>(&rt, "12s 2", TWO_CLASHES);
+    check_order::<_, Rows>(&rt, "12s 2", TWO_CLASHES);
 }
 
 /// Whether collecting the inputs in a table `T` ends with the error `wanted`.
@@ -210,7 +211,7 @@ pub(super) fn ends_with<R: Threads + Wait + Sync + AllocGlobal + Abort>(
     jobs: u32,
     wanted: IntoBookFault,
 ) -> bool {
-    ends_over::<R, Store>(rt, inputs, jobs, wanted)
+    ends_over::<R, Rows>(rt, inputs, jobs, wanted)
 }
 
 /// Inputs, the number of jobs, and the index of the first unreadable input, which is reported. A job may reach a later one first. An
@@ -250,16 +251,16 @@ fn refused_memory(rt: HostRuntime) {
     }
 }
 
-/// As many submissions as a full history has entries are too many, whichever jobs read them. If memory runs out while an input is read,
-/// `Memory` takes precedence.
+/// As many submissions as a full history has entries are too many, whichever jobs read them, and even if they are empty. If memory runs
+/// out while an input is read, `Memory` takes precedence.
 #[test]
 fn a_full_history(rt: HostRuntime) -> Result<(), Fail> {
     let full = IntoBookFault::Collect(CollectFault::Full);
     let memory = IntoBookFault::Collect(CollectFault::Memory);
-    let half = "s".repeat(rt.alloc(), 524_288)?;
+    let half = "e".repeat(rt.alloc(), 524_288)?;
     let exact = format!(in rt.alloc(); "{half} {half}")?;
-    let more = format!(in rt.alloc(); "{half}s x {half}")?;
-    let refused = format!(in rt.alloc(); "{exact} s !")?;
+    let more = format!(in rt.alloc(); "{half}e x {half}")?;
+    let refused = format!(in rt.alloc(); "{exact} e !")?;
     assert!(rt; ends_with(&rt, exact.as_str(), 2, full));
     assert!(rt; ends_with(&rt, more.as_str(), 1, full));
     assert!(rt; ends_with(&rt, refused.as_str(), 2, memory));

@@ -10,7 +10,7 @@ use super::wrappers::{gathered, learn, reader, reading, totals};
 use covbook::{Entry, JobLog, Reading, Readings};
 use covjobs::{Live, Name, News, ReaderFault, Seat, Shared, Start};
 use covreport::Table;
-use covstore::Store;
+use covrows::Rows;
 use std::alloc::Global;
 use std::marker::Brand;
 use std::process::Abort;
@@ -103,7 +103,7 @@ fn kept_over_close<L: Name, R: Wait + Abort + AllocGlobal, T: Table<Global>>(rt:
 
 #[test]
 fn readers_of_a_closed_book(rt: HostRuntime) {
-    kept_over_close::<Brand, _, Store>(&rt, started(&rt, rt.alloc(), 1));
+    kept_over_close::<Brand, _, Rows>(&rt, started(&rt, rt.alloc(), 1));
 }
 
 /// Makes `count` readers of the book.
@@ -146,7 +146,7 @@ fn all_places<L: Name, R: Wait + Abort + AllocGlobal, T: Table<Global>>(rt: &R, 
 
 #[test]
 fn places_for_readers(rt: HostRuntime) {
-    all_places::<Brand, _, Store>(&rt, started(&rt, rt.alloc(), 1));
+    all_places::<Brand, _, Rows>(&rt, started(&rt, rt.alloc(), 1));
 }
 
 /// How often the small tracefile is submitted, and how often the totals are read at the same time.
@@ -278,5 +278,5 @@ fn read_while_written<
 
 #[test]
 fn read_at_once(rt: HostRuntime) {
-    read_while_written::<Brand, _, Store>(&rt, started(&rt, rt.alloc(), 1));
+    read_while_written::<Brand, _, Rows>(&rt, started(&rt, rt.alloc(), 1));
 }

@@ -7,7 +7,7 @@ use super::wrappers::done;
 use covbook::{BookFault, Op};
 use covjobs::{Name, Seat, Shared, Start};
 use covreport::Table;
-use covstore::Store;
+use covrows::Rows;
 use linked_list_allocator::LocalHeap;
 use std::alloc::{Allocator, Global};
 use std::marker::Brand;
@@ -99,9 +99,9 @@ fn check_length<L: Name, A: Allocator + Copy, R: Wait + Abort, T: Table<A>>(
     assert_eq!(rt; entries.get().len() as u64, calls);
 }
 
-/// Like `no_room`, with a new book over a `Store`.
+/// Like `no_room`, with a new book over a `Rows`.
 fn no_room_anew<A: Allocator + Copy, R: Wait + Abort>(rt: &R, alloc: A) {
-    no_room::<Brand, A, R, Store<A>>(rt, alloc, started(rt, alloc, 1));
+    no_room::<Brand, A, R, Rows<A>>(rt, alloc, started(rt, alloc, 1));
 }
 
 #[test]
@@ -135,5 +135,5 @@ fn full<L: Name, R: Wait + Abort + AllocGlobal, T: Table<Global>>(rt: &R, start:
 
 #[test]
 fn a_full_book(rt: HostRuntime) {
-    full::<Brand, _, Store>(&rt, started(&rt, rt.alloc(), 1));
+    full::<Brand, _, Rows>(&rt, started(&rt, rt.alloc(), 1));
 }

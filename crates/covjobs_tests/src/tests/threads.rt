@@ -10,7 +10,7 @@ use super::wrappers::gathered;
 use covbook::{Answer, Entry, JobLog, Op};
 use covjobs::{Name, Seat, Shared, Start};
 use covreport::Table;
-use covstore::Store;
+use covrows::Rows;
 use std::alloc::Global;
 use std::marker::Brand;
 use std::process::Abort;
@@ -128,5 +128,5 @@ fn at_once<
 
 #[test]
 fn four_threads(rt: HostRuntime) {
-    at_once::<Brand, _, Store>(&rt, started(&rt, rt.alloc(), 4));
+    at_once::<Brand, _, Rows>(&rt, started(&rt, rt.alloc(), 4));
 }

@@ -10,7 +10,7 @@ use super::wrappers::gathered;
 use covbook::{Entries, Entry, GatherFault, JobLog, Reading};
 use covjobs::{Name, Seat, Shared, Start};
 use covreport::Table;
-use covstore::Store;
+use covrows::Rows;
 use covtable::Totals;
 use std::alloc::Global;
 use std::marker::Brand;
@@ -191,7 +191,7 @@ fn in_turn<L: Name, R: Wait + Abort + AllocGlobal, T: Table<Global>>(
 
 /// Opens a book, and lets two jobs take turns to perform the six operations. Returns the book's history and the logs.
 fn history<R: Wait + Abort + AllocGlobal>(rt: &R, asks: &[Ask]) -> (Entries, Vec<JobLog>) {
-    in_turn::<Brand, _, Store>(rt, started(rt, rt.alloc(), 2), asks)
+    in_turn::<Brand, _, Rows>(rt, started(rt, rt.alloc(), 2), asks)
 }
 
 /// Checks the history of the six operations, and that `gather` accepts it with the logs. Returns the logs.

@@ -1,8 +1,8 @@
 use denote.Param.Send.{sendable}
 use Rattle.std.proofs.Crossing as heap
-use Rattle.covstore.proofs.Crossing.{store_send}
+use Rattle.covrows.proofs.Crossing.{row_send, rows_send}
 use Rattle.covjobs_tests.proofs.tests.into_book.the_order_of_parts.Goals as goal
 
--- the store may go to another thread
+-- the rows may go to another thread
 pub check_order-requires-send-T : goal.check_order-requires-send-T
-check_order-requires-send-T g c κs = search (sendable, heap.crosses, store_send) depth 60 fits 20000
+check_order-requires-send-T g c κs = search (sendable, heap.crosses, row_send, rows_send) depth 60 fits 20000

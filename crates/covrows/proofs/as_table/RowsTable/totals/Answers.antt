@@ -1,0 +1,12 @@
+use Rattle.std.proofs.Common.{ap, refl, ◌∙◌}
+use Rattle.covtable.specs.Content.{content_of}
+use Rattle.covtable.specs.Totals.{totals_of}
+use Rattle.covrows.specs.View.{rows_in}
+use Rattle.covrows.proofs.Least.{all_picked}
+use Rattle.covrows.proofs.as_table.RowsTable.totals.Goals as goal
+
+pub returns-clause-value : goal.returns-clause-value
+returns-clause-value g c = c.totals_where.ensures.value ∙ ap totals_of (all_picked _ (λ s. refl) (content_of (rows_in c.args.self.now)))
+
+pub returns-clause-bounds : goal.returns-clause-bounds
+returns-clause-bounds g c = c.totals_where.ensures.bounds

@@ -1,0 +1,7 @@
+use Rattle.covrows.specs.Data.{row_data}
+use Rattle.std.specs.Prelude.{◌≡◌, ◌++◌, drop, map}
+use Rattle.covrows.proofs.copies.copy_rows.Given as goal
+
+-- the rows so far, and those that are left
+abbrev pub invariant-loop-row : goal.invariant-loop-row
+invariant-loop-row g l = map row_data l.copies.items ++ map row_data (drop l.row-index l.rows) ≡ map row_data l.rows

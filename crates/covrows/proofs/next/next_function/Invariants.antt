@@ -1,0 +1,14 @@
+use Rattle.std.specs.Prelude.{◌≡◌, None, [], drop, map, option_map}
+use Rattle.std.specs.List.{flat_map}
+use Rattle.std.specs.Cmp.Lexicographic.{slice_cmp}
+use Rattle.std.specs.Ordering.{nat_cmp}
+use Rattle.covdata.specs.Points.{func_point}
+use Rattle.covrows.specs.Above.{least_of}
+use Rattle.covrows.specs.Data.{at_key, key_data, row_data}
+use Rattle.covrows.proofs.next.next_function.Given as goal
+
+-- the least so far and the rows that are left give what all rows give
+abbrev pub invariant-loop-row : goal.invariant-loop-row
+invariant-loop-row g l =
+    let own = at_key func_point [] (key_data l.key) in
+    least_of (slice_cmp nat_cmp) (option_map (λ name. name.now) l.last) (option_map (λ name. name.now) l.least) (flat_map own (map row_data (drop l.row-index l.rows))) ≡ least_of (slice_cmp nat_cmp) (option_map (λ name. name.now) l.last) None (flat_map own (map row_data l.rows))

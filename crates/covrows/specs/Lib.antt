@@ -1,0 +1,4 @@
+pub mod Above
+pub mod Counted
+pub mod Data
+pub mod View
