@@ -49,11 +49,10 @@ done_if_well {X} {F} chances works ended workers done is =
     (subst (λ (ends : List (End F)). HaveEnded chances works ends) (sym is) (done (subst (λ (ends : List (End F)). AllByRecursion IsStarted ends) is (all_started workers))))
 
 -- if all workers of these ends were started, one was started for each seat, since otherwise one end would be a refusal
-pub ends_started : {X F : Type 0} (chances : Chances X F) (works handled left : List (WorkData X)) (started : Bool) (ended : List (End F)) → (IsTrue started → handled ++ left ≡ works) → left ≡ []
+pub ends_started : {X F : Type 0} (chances : Chances X F) (works handled : List (WorkData X)) (started : Bool) (ended : List (End F)) → (IsTrue started → handled ≡ works)
     → (IsTrue started → HaveEnded chances handled ended) → (started ≡ false → Contains ended (Err no_memory)) → HaveEndedIfStarted chances works ended
-ends_started {X} chances works handled left true ended all none done short =
-    λ all_are. subst (λ (ws : List (WorkData X)). HaveEnded chances ws ended) (sym (append-nil handled) ∙ sym (ap (λ (ws : List (WorkData X)). handled ++ ws) none) ∙ all refl) (done refl)
-ends_started chances works handled left false ended all none done short = λ all_are. absurd (not_started ended all_are (short refl))
+ends_started {X} chances works handled true ended all done short = λ all_are. subst (λ (ws : List (WorkData X)). HaveEnded chances ws ended) (all refl) (done refl)
+ends_started chances works handled false ended all done short = λ all_are. absurd (not_started ended all_are (short refl))
 
 -- after one more worker is started, the works of the handles and those left are together the same as before
 pub one_started : {H X : Type 0} (work : H → WorkData X) (handles : List H) (handle : H) (left : List (WorkData X)) → map work (handles ++ handle ∷ []) ++ left ≡ map work handles ++ work handle ∷ left
@@ -61,8 +60,8 @@ one_started work [] handle left = refl
 one_started {H} {X} work (h ∷ handles) handle left = ap (λ (ws : List (WorkData X)). work h ∷ ws) (one_started work handles handle left)
 
 -- the same for a call that joins the workers, and may be refused
-pub ends_if_ok : {V E X F : Type 0} (chances : Chances X F) (items : V → List (End F)) (result : Result V E) (works handled left : List (WorkData X)) (started : Bool) → (IsTrue started → handled ++ left ≡ works) → left ≡ []
+pub ends_if_ok : {V E X F : Type 0} (chances : Chances X F) (items : V → List (End F)) (result : Result V E) (works handled : List (WorkData X)) (started : Bool) → (IsTrue started → handled ≡ works)
     → IfOk result (λ ended. IsTrue started → HaveEnded chances handled (items ended)) → IfOk result (λ ended. started ≡ false → Contains (items ended) (Err no_memory))
     → IfOk result (λ ended. HaveEndedIfStarted chances works (items ended))
-ends_if_ok chances items (Ok ended) works handled left started all none done short = ends_started chances works handled left started (items ended) all none done short
-ends_if_ok chances items (Err refused) works handled left started all none done short = tt
+ends_if_ok chances items (Ok ended) works handled started all done short = ends_started chances works handled started (items ended) all done short
+ends_if_ok chances items (Err refused) works handled started all done short = tt

@@ -1,5 +1,6 @@
 pub mod AllSeated
 pub mod Ascending
+pub mod Assigned
 pub mod AskedLast
 pub mod Asking
 pub mod EachOnce

@@ -1,6 +1,7 @@
 -- Which inputs a job takes, with their places.
-use Rattle.std.specs.Prelude.{ℕ, List, [], ◌∷◌, length, map, Option, None, Some, slice_get}
+use Rattle.std.specs.Prelude.{◌≡◌, ℕ, List, [], ◌∷◌, length, map, Option, None, Some, slice_get}
 use Rattle.std.specs.List.{range_with_len}
+use Rattle.covlock.specs.Seat.{SeatData, fresh_seat}
 use Rattle.covworkers.specs.declared.shares.Placed.{Placed}
 use Rattle.covworkers.specs.Collect.{brought, places_of_job}
 
@@ -16,3 +17,8 @@ share_of inputs jobs job = brought (places_of_job jobs job) (λ index. placed_at
 -- the shares of all jobs, from job 0 on
 abbrev pub shares_of : {X : Type 0} → (inputs : List X) → (jobs : ℕ) → List (List (Placed X))
 shares_of inputs jobs = map (share_of inputs jobs) (range_with_len 0 jobs)
+
+-- a job can begin: its seat has made no call, and this is its share of the inputs
+pub record IsReady {X : Type 0} (inputs : List X) (jobs : ℕ) (seat : SeatData) (share : List (Placed X)) : Type 0 where
+  pub fresh : seat ≡ fresh_seat seat.job
+  pub own : share ≡ share_of inputs jobs seat.job

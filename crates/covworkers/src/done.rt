@@ -14,7 +14,7 @@ use crate::book_fault::{IntoBookFault, fault_of};
 use crate::gate::Gate;
 use crate::late::LateInput;
 use crate::readers::Readers;
-use crate::shares::{Dealt, deal};
+use crate::shares::{Dealt, assign, deal};
 use crate::stop::{Refusal, Stop, both, lesser, with_parts, worst};
 use crate::worker::Worker;
 use crate::workers::do_all_work;
@@ -54,7 +54,8 @@ pub(crate) fn all_done<
 {
     let dealt = deal(alloc, inputs, jobs)?;
     let Dealt { inputs, shares } = dealt;
-    let ended = do_all_work(rt, alloc, book, gate, seats, jobs, readers, &inputs, shares)?;
+    let assigned = assign(alloc, seats, shares)?;
+    let ended = do_all_work(rt, alloc, book, gate, jobs, readers, &inputs, assigned)?;
     match all_well(alloc, ended) {
         Ok(workers) => Ok(workers),
         Err(stop) => Err(fault_of(stop)),

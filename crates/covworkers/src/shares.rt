@@ -1,9 +1,10 @@
 //! Distributes inputs to jobs.
 
-ghost use Rattle.std.specs.Prelude.{◌≡◌, ◌++◌, [], ◌∷◌, ◌<◌, map, replicate, vec_len, slice_set, slice_index_or, IfOk, OnOk};
+ghost use Rattle.std.specs.Prelude.{◌≡◌, ◌++◌, [], ◌∷◌, ◌<◌, length, map, replicate, vec_len, slice_set, slice_index_or, IfOk, OnOk};
 ghost use Rattle.covworkers.specs.Shares.{shares_of};
 
 use covdata::Memory;
+use covlock::{Name, Seat, Seats};
 use std::alloc::Global;
 use std::snapshot::Snapshot;
 
@@ -20,6 +21,13 @@ pub(crate) struct Placed<T> {
 pub(crate) struct Dealt<T> {
     pub(crate) inputs: Snapshot<Vec<T>>,
     pub(crate) shares: Vec<Vec<Placed<T>>>,
+}
+
+/// A job before its work: its seat, and its share of the inputs.
+#[derive(Drop)]
+pub(crate) struct Assignment<L: Name, T> {
+    pub(crate) seat: Seat<L>,
+    pub(crate) share: Vec<Placed<T>>,
 }
 
 /// Distributes the inputs to `jobs` jobs: job j of n gets the inputs j, j + n, j + 2n and so on, in order. On `Memory`, drops all
@@ -62,4 +70,26 @@ fn give<T: Drop>(
 {
     shares[job].push(placed)?;
     Ok(())
+}
+
+/// Pairs each seat with the share at the same place.
+pub(crate) fn assign<L: Name, T: Drop>(
+    alloc: Global,
+    seats: Seats<L>,
+    shares: Vec<Vec<Placed<T>>>,
+) -> Result<Vec<Assignment<L, T>>, Memory>
+    requires { length shares.items ≡ length seats }
+    ensures seats { IfOk result (λ assigned. map (λ a. a.seat) assigned.items ≡ seats) }
+    ensures shares { IfOk result (λ assigned. map (λ a. a.share) assigned.items ≡ shares.items) }
+{
+    let seats = seats.into_vec();
+    let mut shares = shares.into_iter();
+    let mut assigned = Vec::with_capacity(alloc, seats.len())?;
+    for seat in seats {
+        match shares.next() {
+            Some(share) => assigned.push(Assignment { seat, share })?,
+            None => unreachable!(),
+        }
+    }
+    Ok(assigned)
 }
