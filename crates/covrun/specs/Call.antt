@@ -33,7 +33,7 @@ use Rattle.covsession.specs.Program.{fault_status, words_of_fault, TellsSession}
 use Rattle.covsession.specs.Session.{said}
 use Rattle.covsession.specs.declared.session.fault.SessionFault.TheVariants as faults
 use Rattle.covrun.specs.declared.argument_fault.ArgumentFault.{ArgumentFault}
-use Rattle.covrun.specs.Ending.{EndingData, Prints, FallsShort, BadLine, BadWords, Unreadable, Stopped, status_of, complaint, of_collect, of_collected}
+use Rattle.covrun.specs.Ending.{EndingData, Prints, FallsShort, BadLine, BadWords, Unreadable, Stopped, Ungathered, Refuses, IsUnclean, status_of, complaint, of_collect, of_collected}
 use Rattle.covrun.specs.Naming.{naming_of, told_name}
 use Rattle.covrun.specs.Work.{WorkData, TaskData, Serves, Collects, Checks, Combines, Shows, choice_asked, last_of, task_of, input_of, AreTaken, AreRefused}
 use Rattle.covcommand.specs.declared.asked.PageOptions.{PageOptions}
@@ -130,14 +130,24 @@ IsCutShort text status old new =
     (status ≡ fault_status faults.Write) × (new.failed_output ≡ suc old.failed_output) × HasBegun old.output new.output text
     × Complains (said (words_of_fault faults.Write)) old new
 
+-- how an ending without a text is reported: nothing goes to the output, and the ending's status and words are reported
+abbrev pub IsFailureTold : EndingData → (status : ℕ) → SinksData → SinksData → Type 0
+IsFailureTold ending status old new = (status ≡ status_of ending) × Withholds old new × Complains (complaint ending) old new
+
 -- how an ending is reported. A text is written to the output, and then the lines on rates that are below their limits, to the
--- stream for faults. For any other ending nothing goes to the output, and the ending's status and words are reported
+-- stream for faults
 abbrev pub IsEndingPrinted : EndingData → (status : ℕ) → SinksData → SinksData → Type 0
 IsEndingPrinted (Prints text) status old new =
     ((status ≡ status_of (Prints text)) × Delivers text old new) ⊎ IsCutShort text status old new
 IsEndingPrinted (FallsShort text lines) status old new =
     ((status ≡ status_of (FallsShort text lines)) × DeliversAndComplains text lines old new) ⊎ IsCutShort text status old new
-IsEndingPrinted ending status old new = (status ≡ status_of ending) × Withholds old new × Complains (complaint ending) old new
+IsEndingPrinted (BadLine text) status old new = IsFailureTold (BadLine text) status old new
+IsEndingPrinted (BadWords fault) status old new = IsFailureTold (BadWords fault) status old new
+IsEndingPrinted (Unreadable name) status old new = IsFailureTold (Unreadable name) status old new
+IsEndingPrinted (Stopped fault) status old new = IsFailureTold (Stopped fault) status old new
+IsEndingPrinted Ungathered status old new = IsFailureTold Ungathered status old new
+IsEndingPrinted (Refuses lines) status old new = IsFailureTold (Refuses lines) status old new
+IsEndingPrinted (IsUnclean lines) status old new = IsFailureTold (IsUnclean lines) status old new
 
 -- the file of this name couldn't be written. No file was finished, and the failure is reported
 abbrev pub IsUnwritten : (name : List ℕ) → (status : ℕ) → WorldData → WorldData → Type 0
@@ -147,8 +157,11 @@ IsUnwritten name status old new =
     × Withholds old.sinks new.sinks
     × Complains (shown_name name ++ said (codes ": can't write")) old.sinks new.sinks
 
--- how an ending is reported if the call names a file for its text: the text goes into the file instead of to the output. For an
--- ending without a text no file is written
+-- how an ending without a text is reported if the call names a file for its text: no file is written
+abbrev pub IsFailureToldAlone : EndingData → (status : ℕ) → WorldData → WorldData → Type 0
+IsFailureToldAlone ending status old new = IsFailureTold ending status old.sinks new.sinks × (new.files ≡ old.files)
+
+-- how an ending is reported if the call names a file for its text: the text goes into the file instead of to the output
 abbrev pub IsEndingWritten : (name : List ℕ) → EndingData → (status : ℕ) → WorldData → WorldData → Type 0
 IsEndingWritten name (Prints text) status old new =
     ((status ≡ status_of (Prints text)) × (new.sinks ≡ old.sinks) × IsWritten name text old.files new.files) ⊎ IsUnwritten name status old new
@@ -156,7 +169,13 @@ IsEndingWritten name (FallsShort text lines) status old new =
     ((status ≡ status_of (FallsShort text lines)) × Withholds old.sinks new.sinks × Complains lines old.sinks new.sinks
     × IsWritten name text old.files new.files)
     ⊎ IsUnwritten name status old new
-IsEndingWritten name ending status old new = IsEndingPrinted ending status old.sinks new.sinks × (new.files ≡ old.files)
+IsEndingWritten name (BadLine text) status old new = IsFailureToldAlone (BadLine text) status old new
+IsEndingWritten name (BadWords fault) status old new = IsFailureToldAlone (BadWords fault) status old new
+IsEndingWritten name (Unreadable file) status old new = IsFailureToldAlone (Unreadable file) status old new
+IsEndingWritten name (Stopped fault) status old new = IsFailureToldAlone (Stopped fault) status old new
+IsEndingWritten name Ungathered status old new = IsFailureToldAlone Ungathered status old new
+IsEndingWritten name (Refuses lines) status old new = IsFailureToldAlone (Refuses lines) status old new
+IsEndingWritten name (IsUnclean lines) status old new = IsFailureToldAlone (IsUnclean lines) status old new
 
 -- how an ending is reported. The input isn't read. `file`: the name of the file that the call names for its text
 abbrev pub IsEndingReported : (file : Option (List ℕ)) → EndingData → (status : ℕ) → WorldData → WorldData → Type 0
