@@ -161,7 +161,7 @@ tells() { # WHAT [LINE]...
     call "${day[@]}" jobs/*.info
     fails 5 'combine: the pattern finds 499' "$missing"
     call "${day[@]}" jobs/*.inf
-    fails 1 'combine: the pattern finds none' "jobs/*.inf: can't be read" 'expected 500 files, but read 0'
+    fails 1 'combine: the pattern finds none' 'jobs/*.inf: No such file or directory' 'expected 500 files, but read 0'
     call bash -O nullglob -c '"$@" jobs/*.inf' - "${day[@]}"
     fails 5 'combine: and gives no name' 'error: no file is named: did a pattern match nothing?' 'expected 500 files, but read 0'
     job 250 >jobs/250.info
@@ -179,16 +179,16 @@ tells() { # WHAT [LINE]...
     names=(jobs/*.info)
     mv jobs/250.info late
     call "${day[@]}" "${names[@]}"
-    fails 1 'combine: a name without a file' "jobs/250.info: can't be read" "$missing"
+    fails 1 'combine: a name without a file' 'jobs/250.info: No such file or directory' "$missing"
     call "$COVCOLLECT" combine "${paths[@]}" --one-test -o all.info "${names[@]}"
-    fails 1 'combine: the same without --expect' "jobs/250.info: can't be read"
+    fails 1 'combine: the same without --expect' 'jobs/250.info: No such file or directory'
     mkdir jobs/250.info
     call "${day[@]}" jobs/*.info
-    fails 1 'combine: a folder in its place' "jobs/250.info: can't be read" "$missing"
+    fails 1 'combine: a folder in its place' 'jobs/250.info: Is a directory: was a pattern not quoted?' "$missing"
     rmdir jobs/250.info
     ln -s nothing jobs/250.info
     call "${day[@]}" jobs/*.info
-    fails 1 'combine: a link that leads nowhere' "jobs/250.info: can't be read" "$missing"
+    fails 1 'combine: a link that leads nowhere' 'jobs/250.info: No such file or directory' "$missing"
     ln -sf ../late jobs/250.info
     call "${day[@]}" jobs/*.info
     writes 0 'combine: a link that leads to the file'
@@ -364,25 +364,29 @@ tells() { # WHAT [LINE]...
     writes 0 'combine: -0 --files-from standard input'
     day_before
     call "${day[@]}" --files-from list
-    fails 1 'combine: a name in the list, but no file' "jobs/250.info: can't be read" "$missing"
+    fails 1 'combine: a name in the list, but no file' 'jobs/250.info: No such file or directory' "$missing"
     call "${day[@]}" --files-from list jobs/001.info
     fails 2 'combine: a name in the list and in the call' 'jobs/001.info: named twice'
     call "${day[@]}" --files-from none
-    fails 1 "combine: a list that isn't there" "none: can't be read"
+    fails 1 "combine: a list that isn't there" 'none: No such file or directory'
     call "${day[@]}" --files-from /dev/null
     fails 5 'combine: an empty list' 'error: no file is named: did a pattern match nothing?' 'expected 500 files, but read 0'
 }
 
 @test "the disk is full" {
-    local where
+    local where why
     begin
-    for where in /dev/full none/all.info jobs; do
-        call "$COVCOLLECT" combine "${paths[@]}" --one-test --expect 500 -o $where jobs/*.info
-        told_alone 1 "combine: -o $where" "$where: can't be written"
-    done
+    while read -r where why; do
+        call "$COVCOLLECT" combine "${paths[@]}" --one-test --expect 500 -o "$where" jobs/*.info
+        told_alone 1 "combine: -o $where" "$where: $why"
+    done <<'END'
+/dev/full No space left on device
+none/all.info No such file or directory
+jobs Is a directory
+END
     # A limit on the length of files, which the kernel keeps.
     call bash -c 'trap "" XFSZ; ulimit -f 8; "$@"' - "${day[@]}" jobs/*.info
-    fails 1 'combine: files have at most 8 KiB' "all.info: can't be written"
+    fails 1 'combine: files have at most 8 KiB' 'all.info: File too large'
     # The file is written first.
     call bash -c '"$@" >/dev/full' - "${day[@]}" jobs/*.info
     ended 1 'combine: the summary goes to a full disk'
@@ -396,7 +400,9 @@ tells() { # WHAT [LINE]...
                 "${@:3}" -o disk/all.info jobs/*.info || status=$?
                 cmp "$1" disk/all.info && [ "$(stat -c "%i %y" disk/all.info):$(ls disk)" = "$before:all.info" ] || exit 98
                 exit $status' - "$BATS_FILE_TMPDIR/old" $where "$COVCOLLECT" combine "${paths[@]}" --one-test --expect 500
-            told_alone 1 "combine: on a disk of its own, $where, whose file stays" "disk/all.info: can't be written"
+            why='No space left on device'
+            [ $where != ro ] || why='Read-only file system'
+            told_alone 1 "combine: on a disk of its own, $where, whose file stays" "disk/all.info: $why"
         done
     else
         not_tried 'combine: a full disk, and one that is read-only: this user may not mount'
@@ -418,7 +424,7 @@ tells() { # WHAT [LINE]...
         chmod 555 shut
     fi
     call "${as[@]}" "$program" combine "${paths[@]}" --one-test --expect 500 -o shut/all.info jobs/*.info
-    told_alone 1 'combine: a folder that may not be written' "shut/all.info: can't be written"
+    told_alone 1 'combine: a folder that may not be written' 'shut/all.info: Permission denied'
     cd shut
     kept 'combine: a folder that may not be written'
     cd ..
@@ -488,6 +494,6 @@ tells() { # WHAT [LINE]...
     for number in 1 2 8; do
         call "${day[@]}" -j $number "${names[@]}"
         fails 1 "combine: three wrong ones, -j $number" 'jobs/100.info: empty' 'jobs/200.info: ends within a section: was its writer killed, or a disk full?' \
-            "jobs/400.info: can't be read" 'expected 500 files, but read 497'
+            'jobs/400.info: No such file or directory' 'expected 500 files, but read 497'
     done
 }

@@ -121,7 +121,7 @@ covcollect-clash	/s/a.c	1	clash /s/a.c 1 abc abd
 covcollect-combine-odd	odd.info	-	warning: 1 line doesn't fit: wrong totals, or counts of functions that start nowhere
 covcollect-combine-line	jobs of today/line.info	3	the fields don't fit the line's key: was the file cut here?
 covcollect-combine-file	cut.info	-	ends within a section: was its writer killed, or a disk full?
-covcollect-combine-file	none.info	-	can't be read
+covcollect-combine-file	none.info	-	No such file or directory
 covcollect-combine-file	page.info	-	no record (begins with "<html>")
 covcollect-combine-file	empty.info	-	empty
 covcollect-combine-file	held.gz	-	packed by gzip (unpack it first, or name it as <(zcat 'held.gz'))
@@ -132,7 +132,7 @@ covcollect-combine-call	-	-	--exclude /usr/*: matches no source file
 covcollect-combine-file	odd.info	-	1 line doesn't fit: wrong totals, counts of functions that start nowhere, or unknown keys
 covcollect-combine-file	skipped.info	-	2 lines don't fit: wrong totals, counts of functions that start nowhere, or unknown keys
 covcollect-combine-warning	-	-	warning: --path /x=/y: applies to no source file
-covcollect-combine-file	none/all.info	-	can't be written
+covcollect-combine-file	none/all.info	-	No such file or directory
 covcollect-combine-file	clean.info	-	named twice
 covcollect-combine-file	./clean.info	-	the same file as clean.info
 END

@@ -161,7 +161,7 @@ def combined_names(player, folder):
     for names, status, told in (
         ([packed], 5, f"{shown}: packed by gzip (unpack it first, or name it as <({command}))\n"),
         ([packed, packed], 2, f"{shown}: named twice\n"),
-        ([missing], 1, f"{folder}/none\\x1b\\\\.info: can't be read\n"),
+        ([missing], 1, f"{folder}/none\\x1b\\\\.info: No such file or directory\n"),
     ):
         player.call("combined names", folder, ["covcollect", "combine", *names], (status, b"", told.encode()))
 

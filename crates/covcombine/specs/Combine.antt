@@ -66,7 +66,7 @@ warning_of strictness name note = []
 
 -- why a call fails, if it fails for the file of this name
 abbrev pub refusal_of : Strictness → (name : List ℕ) → Note → List ℕ
-refusal_of strictness name Unreadable = unreadable_line name
+refusal_of strictness name (Unreadable reason) = unreadable_line name reason
 refusal_of strictness name (Strange kind) = told name (strange_words name kind)
 refusal_of strictness name (NoRecord begins sections) = no_record_line name begins sections
 refusal_of strictness name (Faulty fault) = fault_line name fault
@@ -92,7 +92,7 @@ clash_lines entries = flat_map (λ (e : EntryData). clash_of_answer e.answer) en
 -- ---- how many files were read
 
 abbrev pub is_merged : Note → Bool
-is_merged Unreadable = false
+is_merged (Unreadable reason) = false
 is_merged (Strange kind) = false
 is_merged (NoRecord begins sections) = false
 is_merged (Faulty fault) = false
@@ -109,7 +109,7 @@ unexpected (Some expected) read = if expected == read then [] else expected_line
 
 -- whether the rule for paths at this place was applied to a source file of the file with this note
 abbrev pub has_used : Note → (place : ℕ) → Bool
-has_used Unreadable place = false
+has_used (Unreadable reason) place = false
 has_used (Strange kind) place = false
 has_used (NoRecord begins sections) place = false
 has_used (Faulty fault) place = false
@@ -192,7 +192,7 @@ failures work entries notes =
 
 -- the status of a call that fails for a file with this note
 abbrev pub note_status : Note → ℕ
-note_status Unreadable = 1
+note_status (Unreadable reason) = 1
 note_status (Strange kind) = 5
 note_status (NoRecord begins sections) = 5
 note_status (Faulty fault) = 4

@@ -22,6 +22,8 @@ use Rattle.covpages.specs.declared.fault.PagesFault.{PagesFault}
 use Rattle.covworld.specs.OutputFiles.{IsWritten, OutputFilesData}
 use Rattle.covworld.specs.Streams.{SinksData, SourceData, Complains, IsSilent, PutsOut, Withholds}
 use Rattle.covworld.specs.World.{WorldData}
+use Rattle.covworld.specs.declared.reason.Reason.{Reason}
+use Rattle.covworld.specs.declared.reason.Reason.TheVariants.{Other}
 use Rattle.covcombine.specs.Combine.{EndingData, Fails, Gives, PagesData, TextsData, end_of}
 use Rattle.covcombine.specs.Messages.{call_fault_line, cut_line, expected_line, pages_lines, unwritten_line}
 use Rattle.covcombine.specs.FileNames.{AreNamesOf, InFile, InInput, IsListRead, ListPlace, cut_at, end_byte, name_of_list, place_of}
@@ -77,12 +79,13 @@ IsPrinted cut text warnings missed status old new =
 abbrev pub HasFailed : (failed : ℕ) → (lines : List ℕ) → (status : ℕ) → WorldData → WorldData → Type 0
 HasFailed failed lines status old new = (status ≡ failed) × (new.files ≡ old.files) × Withholds old.sinks new.sinks × Complains lines old.sinks new.sinks
 
--- the file couldn't be written. No file is finished, nothing is printed, and the last line says so. `pages`: the folder that was written before
+-- the file couldn't be written. No file is finished, nothing is printed, and the last line gives a reason. `pages`: the folder that was
+-- written before
 abbrev pub IsUnfiled : (name : List ℕ) → (pages : Option (List ℕ)) → (warnings : List ℕ) → (status : ℕ) → WorldData → WorldData → Type 0
 IsUnfiled name pages warnings status old new =
-    (status ≡ 1) × (new.files.finished ≡ old.files.finished) × (new.files.names ≡ old.files.names) × (new.files.begun ≡ old.files.begun)
+    (reason : Reason) × (status ≡ 1) × (new.files.finished ≡ old.files.finished) × (new.files.names ≡ old.files.names) × (new.files.begun ≡ old.files.begun)
     × (new.files.failed ≡ suc old.files.failed)
-    × Withholds old.sinks new.sinks × Complains (warnings ++ unwritten_line name pages) old.sinks new.sinks
+    × Withholds old.sinks new.sinks × Complains (warnings ++ unwritten_line name reason pages) old.sinks new.sinks
 
 -- how the texts of a call are given. `file`: the name of the file that the call names, unless that is standard output. The file is finished
 -- with the whole tracefile, and only then the overview is printed
@@ -130,13 +133,14 @@ IsReported folder file (Gives given) status old new = AreGivenWith folder file g
 -- the end of a call whose options don't do. If it expects files, it says that it read none
 abbrev pub of_call_fault : (expected : Option ℕ) → CallFault → EndingData
 of_call_fault (Some number) NoName = Fails 5 (call_fault_line NoName ++ expected_line number 0)
-of_call_fault expected (UnreadList list) = Fails 1 (call_fault_line (UnreadList list))
+of_call_fault expected (UnreadList list reason) = Fails 1 (call_fault_line (UnreadList list reason))
 of_call_fault expected fault = Fails 2 (call_fault_line fault)
 
--- a list there can't be read: the file of this name may fail, or a read of standard input failed
-abbrev pub IsUnreadAt : FolderData → ListPlace → (before after : SourceData) → Type 0
-IsUnreadAt folder (InFile name) before after = folder.MayFail name × (after ≡ before)
-IsUnreadAt folder InInput before after = after.failed_reads ≡ suc before.failed_reads
+-- a list there can't be read: the file of this name may fail for this reason, or a read of standard input failed, whose reason isn't
+-- known
+abbrev pub IsUnreadAt : FolderData → ListPlace → Reason → (before after : SourceData) → Type 0
+IsUnreadAt folder (InFile name) reason before after = folder.MayFailFor name reason × (after ≡ before)
+IsUnreadAt folder InInput reason before after = (reason ≡ Other) × (after.failed_reads ≡ suc before.failed_reads)
 
 -- a list there is too long
 abbrev pub IsLongAt : FolderData → ListPlace → (before after : SourceData) → Type 0
@@ -147,7 +151,7 @@ IsLongAt folder InInput before after =
 -- the list of this name isn't taken for this reason: it can't be read; or it has more than 64 MiB; or a name in it isn't UTF-8. Names end at
 -- `byte`. `before` and `after`: standard input
 abbrev pub IsListFault : FolderData → (list : List ℕ) → (byte : ℕ) → (before after : SourceData) → CallFault → Type 0
-IsListFault folder list byte before after (UnreadList told) = (told.now ≡ name_of_list list) × IsUnreadAt folder (place_of list) before after
+IsListFault folder list byte before after (UnreadList told reason) = (told.now ≡ name_of_list list) × IsUnreadAt folder (place_of list) reason before after
 IsListFault folder list byte before after (LongList told) = (told.now ≡ name_of_list list) × IsLongAt folder (place_of list) before after
 IsListFault folder list byte before after (NotText told number) =
     (told.now ≡ name_of_list list) × (text : List ℕ) × IsListRead folder (place_of list) text before after

@@ -5,10 +5,10 @@ use Rattle.std.specs.String.{string_bytes}
 use Rattle.covcommand.specs.declared.asked.CombineOptions.{CombineOptions}
 use Rattle.covread.specs.Outcome.{max_bytes}
 use Rattle.covstream.specs.Blocks.{HasReadAtMost}
-use Rattle.covstream.specs.declared.fault.BlockFault.{BlockFault}
-use Rattle.covstream.specs.declared.fault.BlockFault.TheVariants as blocks
 use Rattle.covworld.specs.Folder.{FolderData, IsTextOf}
 use Rattle.covworld.specs.Streams.{SourceData}
+use Rattle.covworld.specs.declared.file_fault.FileFault.{FileFault}
+use Rattle.covworld.specs.declared.file_fault.FileFault.TheVariants as files
 use Rattle.covcombine.specs.Combine.{EndingData}
 use Rattle.covcombine.specs.Combined.{IsListFault, IsUnreadAt, MayRead, MayReadAt, of_call_fault, out_of_memory}
 use Rattle.covcombine.specs.FileNames.{ListPlace, InInput, InFile, cut_at, end_byte, name_of_list}
@@ -44,9 +44,9 @@ IsTextAt folder (InFile name) text before after = IsTextOf (folder.holds name) t
 IsTextAt folder InInput text before after = IsInputText before after text
 
 -- why nothing is read of the list there
-abbrev pub HasNoTextAt : FolderData → ListPlace → (before after : SourceData) → BlockFault → Type 0
-HasNoTextAt folder place before after blocks.Unreadable = IsUnreadAt folder place before after
-HasNoTextAt folder place before after blocks.Memory = MayReadAt place before after
+abbrev pub HasNoTextAt : FolderData → ListPlace → (before after : SourceData) → FileFault → Type 0
+HasNoTextAt folder place before after (files.Unreadable reason) = IsUnreadAt folder place reason before after
+HasNoTextAt folder place before after files.Memory = MayReadAt place before after
 
 -- the list of this name isn't read: it can't be, or it is too long, whatever byte its names end at
 abbrev pub IsListStop : FolderData → (list : List ℕ) → (before after : SourceData) → WorkFault → Type 0

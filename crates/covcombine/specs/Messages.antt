@@ -16,6 +16,8 @@ use Rattle.covsession.specs.Program.{words_of_fault}
 use Rattle.covsession.specs.Session.{said}
 use Rattle.covsession.specs.declared.session.fault.SessionFault.TheVariants as sessions
 use Rattle.covtable.specs.Clash.{ClashData}
+use Rattle.covworld.specs.declared.reason.Reason.{Reason}
+use Rattle.covworld.specs.declared.reason.Reason.TheVariants.{Missing, Denied, Directory, NoDirectory, Full, Quota, ReadOnly, TooLarge, Other}
 use Rattle.covcombine.specs.declared.call_fault.CallFault.{CallFault}
 use Rattle.covcombine.specs.declared.call_fault.CallFault.TheVariants.{ManyPatterns, LongPattern, NoRate, BadPath, BadTest, NoRoom, NoPages, BadSource, NoName, Twice, OneFile, UnreadList, LongList, NotText}
 use Rattle.covcombine.specs.declared.call_fault.CallOption.{CallOption}
@@ -36,8 +38,35 @@ counted number one many = decimal number ++ (codes " " ++ (if number == 1 then o
 
 -- ---- files that can't be read, or are no tracefiles
 
-abbrev pub unreadable_line : (name : List ℕ) → List ℕ
-unreadable_line name = told name (codes "can't be read")
+-- the system's words for a reason, or these words for another one
+abbrev pub system_words : Reason → (otherwise : List ℕ) → List ℕ
+system_words Missing otherwise = codes "No such file or directory"
+system_words Denied otherwise = codes "Permission denied"
+system_words Directory otherwise = codes "Is a directory"
+system_words NoDirectory otherwise = codes "Not a directory"
+system_words Full otherwise = codes "No space left on device"
+system_words Quota otherwise = codes "Disk quota exceeded"
+system_words ReadOnly otherwise = codes "Read-only file system"
+system_words TooLarge otherwise = codes "File too large"
+system_words Other otherwise = otherwise
+
+-- what may have happened where a tracefile was named
+abbrev pub reason_hint : Reason → List ℕ
+reason_hint Missing = []
+reason_hint Denied = []
+reason_hint Directory = codes ": was a pattern not quoted?"
+reason_hint NoDirectory = []
+reason_hint Full = []
+reason_hint Quota = []
+reason_hint ReadOnly = []
+reason_hint TooLarge = []
+reason_hint Other = []
+
+abbrev pub read_words : Reason → List ℕ
+read_words reason = system_words reason (codes "can't be read")
+
+abbrev pub unreadable_line : (name : List ℕ) → Reason → List ℕ
+unreadable_line name reason = told name (read_words reason ++ reason_hint reason)
 
 -- a name as a word of a shell command: in single quotes (39), with each single quote in it written as '\''
 abbrev pub quoted_byte : ℕ → List ℕ
@@ -131,17 +160,26 @@ but_written (Some name) None = codes ", but " ++ (shown_name name ++ codes " is"
 but_written None (Some folder) = codes ", but " ++ (shown_name folder ++ codes " is")
 but_written (Some name) (Some folder) = codes ", but " ++ (shown_name name ++ (codes " and " ++ (shown_name folder ++ codes " are")))
 
--- the file, or standard output, can't be written
-abbrev pub unwritten_line : (name : List ℕ) → (pages : Option (List ℕ)) → List ℕ
-unwritten_line name pages = told name (codes "can't be written" ++ but_written None pages)
+abbrev pub write_words : Reason → List ℕ
+write_words reason = system_words reason (codes "can't be written")
 
+-- the folder of pages was written before
+abbrev pub but_pages : (pages : Option (List ℕ)) → List ℕ
+but_pages None = []
+but_pages (Some folder) = codes ", but " ++ (shown_name folder ++ codes " is written")
+
+-- the file can't be written
+abbrev pub unwritten_line : (name : List ℕ) → Reason → (pages : Option (List ℕ)) → List ℕ
+unwritten_line name reason pages = told name (write_words reason ++ but_pages pages)
+
+-- standard output can't be written
 abbrev pub cut_line : (file pages : Option (List ℕ)) → List ℕ
 cut_line file pages = said (codes "standard output can't be written" ++ but_written file pages)
 
 -- pages can't be written into the folder. `warnings`: the lines before
 abbrev pub pages_lines : (warnings folder : List ℕ) → PagesFault → List ℕ
 pages_lines warnings folder pages_faults.Foreign = warnings ++ told folder (codes "has files that html didn't write")
-pages_lines warnings folder pages_faults.Unwritten = warnings ++ unwritten_line folder None
+pages_lines warnings folder (pages_faults.Unwritten reason) = warnings ++ unwritten_line folder reason None
 pages_lines warnings folder (pages_faults.Refused lines) = warnings ++ lines
 pages_lines warnings folder pages_faults.Memory = said (words_of_fault sessions.Memory)
 
@@ -183,6 +221,6 @@ call_fault_line (BadSource word) = error_line (codes "--source " ++ (shown_name 
 call_fault_line NoName = error_line (codes "no file is named: did a pattern match nothing?")
 call_fault_line (Twice name) = told name.now (codes "named twice")
 call_fault_line (OneFile first second) = told second.now (codes "the same file as " ++ shown_name first.now)
-call_fault_line (UnreadList list) = unreadable_line list.now
+call_fault_line (UnreadList list reason) = told list.now (read_words reason)
 call_fault_line (LongList list) = told list.now (codes "more than 64 MiB")
 call_fault_line (NotText list number) = told_at list.now number (codes "the name isn't UTF-8")

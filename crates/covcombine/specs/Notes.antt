@@ -14,6 +14,7 @@ use Rattle.covpaths.specs.Names.{NamesData, named, none_used, used_after}
 use Rattle.covpaths.specs.Paths.{RuleData}
 use Rattle.covworkers.specs.Collect.{OutcomeData}
 use Rattle.covworld.specs.Folder.{FolderData, IsTextAtMost}
+use Rattle.covworld.specs.declared.reason.Reason.{Reason}
 use Rattle.covcombine.specs.Strangers.{first_bytes, first_line, strange}
 use Rattle.covcombine.specs.declared.note.Counts.{Counts}
 use Rattle.covcombine.specs.declared.note.Note.{Note}
@@ -65,5 +66,5 @@ IsUnlessStrange (Some kind) new strictness held first outcome = outcome ≡ reco
 -- what comes of the file of this name. Nothing is said of what was read of a file that can't be read: such a call prints no counts
 abbrev pub IsOfFile : FolderData → NamesData → Strictness → (name : List ℕ) → OutcomeData Note → Type 0
 IsOfFile folder new strictness name outcome =
-    ((outcome.fault ≡ Some Unreadable) × folder.MayFail name)
+    ((reason : Reason) × (outcome.fault ≡ Some (Unreadable reason)) × folder.MayFailFor name reason)
     ⊎ ((first : List ℕ) × IsTextAtMost first_bytes (folder.holds name) first × IsUnlessStrange (strange first) new strictness (folder.holds name) first outcome)

@@ -83,7 +83,7 @@ IsCallFault folder options names file (BadSource word) = Contains options.texts.
 IsCallFault folder options names file NoName = names ≡ []
 IsCallFault folder options names file (Twice name) = IsTwice names name.now
 IsCallFault folder options names file (OneFile first second) = AreOneFile folder names first.now second.now
-IsCallFault folder options names file (UnreadList list) = ⊥
+IsCallFault folder options names file (UnreadList list reason) = ⊥
 IsCallFault folder options names file (LongList list) = ⊥
 IsCallFault folder options names file (NotText list number) = ⊥
 

@@ -38,6 +38,7 @@ use Rattle.covworkers.specs.declared.refused.RefusedInput.{RefusedInput}
 use Rattle.covworld.specs.Folder.{FolderData}
 use Rattle.covworld.specs.Streams.{CanWrite, Complains, SinksData, Withholds}
 use Rattle.covworld.specs.World.{WorldData}
+use Rattle.covworld.specs.declared.reason.Reason.TheVariants as reasons
 use Rattle.covcombine.specs.FileNames.{AreApart, AreOneFile}
 use Rattle.covcombine.specs.Messages.{pages_lines}
 use Rattle.covcombine.specs.Notes.{IsOfFile, note_of}
@@ -97,7 +98,7 @@ note_after rules opened read end = note_at opened.first (counts_with opened.coun
 -- what may come of the rest of an opened tracefile: it can't be read, or it is read up to an end, and gets its new names
 abbrev pub MayGiveOpened : {S : Type 0} → (left : S → Option (List ℕ)) → (failed_reads : S → ℕ) → NamesData → Opened S → OutcomeData Note → Type 0
 MayGiveOpened left failed_reads new opened outcome =
-    ((outcome.fault ≡ Some Unreadable) × MayFailFrom left failed_reads opened.rest.source)
+    ((outcome.fault ≡ Some (Unreadable reasons.Other)) × MayFailFrom left failed_reads opened.rest.source)
     ⊎ ((read : List SubmissionData) × (end : Result (Option SummaryData) ReadFault) × MayGive left opened.rest read end
     × (outcome ≡ record { read = map (named new) read; fault = Some (note_after new.rules opened read end) }))
 
@@ -150,11 +151,11 @@ of_stop stops.Memory = late.Memory
 -- a fault of a piece, and of reading blocks
 abbrev pub of_piece : PieceFault → Stop
 of_piece (pieces.Refused fault) = stops.Ended (Faulty fault)
-of_piece pieces.Unreadable = stops.Ended Unreadable
+of_piece pieces.Unreadable = stops.Ended (Unreadable reasons.Other)
 of_piece pieces.Memory = stops.Memory
 
 abbrev pub of_block : BlockFault → Stop
-of_block blocks.Unreadable = stops.Ended Unreadable
+of_block blocks.Unreadable = stops.Ended (Unreadable reasons.Other)
 of_block blocks.Memory = stops.Memory
 
 -- ---- collecting

@@ -2,6 +2,7 @@
 
 use covdata::Memory;
 use covpaths::RuleFault;
+use covworld::Reason;
 
 /// An option that may be wrong.
 #[derive(Clone, Copy)]
@@ -76,8 +77,8 @@ pub(crate) enum CallFault<'a> {
     Twice(&'a str),
     /// Two names of one file: the first one, and another one.
     OneFile(&'a str, &'a str),
-    /// The list of names can't be read. Standard input has a name in words.
-    UnreadList(&'a [u8]),
+    /// The list of names can't be read, for this reason. Standard input has a name in words.
+    UnreadList(&'a [u8], Reason),
     /// The list of names has more than 64 MiB.
     LongList(&'a [u8]),
     /// In the list of names, the name with this number isn't UTF-8.

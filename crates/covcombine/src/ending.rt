@@ -102,7 +102,7 @@ pub(crate) fn end_for_fault<'b, T: Table<Global>>(
             put_expected(u64::from(number), 0, &mut lines)?;
             Ok(Ending::Fails { status: 5, lines })
         }
-        (_, CallFault::UnreadList(_)) => Ok(Ending::Fails { status: 1, lines }),
+        (_, CallFault::UnreadList(_, _)) => Ok(Ending::Fails { status: 1, lines }),
         _ => Ok(Ending::Fails { status: 2, lines }),
     }
 }
@@ -343,7 +343,7 @@ fn put_refusal(
     ensures { OnOk result (lines.new ≡ lines.old ++ refusal_of strictness name.now note.now) }
 {
     match (note, strictness) {
-        (Note::Unreadable, _) => put_unreadable(name.as_bytes(), lines),
+        (Note::Unreadable(reason), _) => put_unreadable(name.as_bytes(), *reason, lines),
         (Note::Strange(kind), _) => put_strange(name.as_bytes(), *kind, lines),
         (Note::NoRecord { begins, sections }, _) => {
             put_no_record(name.as_bytes(), begins.get(), *sections, lines)

@@ -14,7 +14,7 @@ use crate::call_fault::{CallFault, WorkFault};
 use covcommand::{CombineOptions, NameEnd, Names};
 use covdata::{Bytes, MAX_BYTES, Memory};
 use covstream::{BLOCK_BYTES, BlockFault, Source, read_at_most};
-use covworld::{Folder, file_text};
+use covworld::{FileFault, Folder, file_text};
 use memchr::memchr;
 use std::alloc::Global;
 
@@ -75,10 +75,11 @@ fn list_text<'a, F: Folder, I: Source>(
     match first_text(folder, alloc, list, input) {
         Ok(text) if text.len() <= MAX_BYTES => Ok(text),
         Ok(_) => Err(WorkFault::Call(CallFault::LongList(list_name(list)))),
-        Err(BlockFault::Unreadable) => {
-            Err(WorkFault::Call(CallFault::UnreadList(list_name(list))))
-        }
-        Err(BlockFault::Memory) => Err(WorkFault::Memory),
+        Err(FileFault::Unreadable(reason)) => Err(WorkFault::Call(CallFault::UnreadList(
+            list_name(list),
+            reason,
+        ))),
+        Err(FileFault::Memory) => Err(WorkFault::Memory),
     }
 }
 
@@ -88,7 +89,7 @@ fn first_text<F: Folder, I: Source>(
     alloc: Global,
     list: &str,
     input: &mut I,
-) -> Result<Bytes, BlockFault>
+) -> Result<Bytes, FileFault>
     requires reads { I.reads input.old < 2 ^ 62 }
     requires failed_reads { I.failed_reads input.old < 2 ^ 62 }
     ensures text { IfOk result (λ text. IsTextAt (folder_data F.Folder F.File.Source folder.now) (place_of list.now) text
@@ -97,7 +98,7 @@ fn first_text<F: Folder, I: Source>(
         (source (I.left input.old) (I.reads input.old) (I.failed_reads input.old)) (source (I.left input.new) (I.reads input.new) (I.failed_reads input.new))) }
 {
     if list == "-" {
-        input_text(alloc, input)
+        Ok(input_text(alloc, input)?)
     } else {
         file_text(folder, alloc, list)
     }

@@ -1,8 +1,8 @@
 //! The lines on standard error. Each function appends whole lines, or a part of one.
 
-ghost use Rattle.std.specs.Prelude.{◌≡◌, ◌++◌, OnOk, codes, decimal, option_map};
+ghost use Rattle.std.specs.Prelude.{◌≡◌, ◌++◌, None, OnOk, codes, decimal, option_map};
 ghost use Rattle.covlist.specs.Shown.{shown_name};
-ghost use Rattle.covcombine.specs.Messages.{begins_words, but_written, call_fault_line, clash_line, counted, cut_line, error_line, expected_line, fault_line, line_fault_words as words_of_line_fault, misfit_words as words_of_misfits, misfits_line, no_record_line, no_record_words, none_left_line, option_name, packed_words, pages_lines, quoted, quoted_byte, rule_fault_words as words_of_rule_fault, strange_words, told, told_at, unmatched_line, unreadable_line, unused_line, unwritten_line};
+ghost use Rattle.covcombine.specs.Messages.{begins_words, but_pages, but_written, call_fault_line, clash_line, counted, cut_line, error_line, expected_line, fault_line, line_fault_words as words_of_line_fault, misfit_words as words_of_misfits, misfits_line, no_record_line, no_record_words, none_left_line, option_name, packed_words, pages_lines, quoted, quoted_byte, read_words as words_of_read, reason_hint as hint_of_reason, rule_fault_words as words_of_rule_fault, strange_words, system_words as words_of_system, told, told_at, unmatched_line, unreadable_line, unused_line, unwritten_line, write_words as words_of_write};
 
 use crate::call_fault::{CallFault, CallOption};
 use crate::stranger::Stranger;
@@ -11,6 +11,7 @@ use covdata::{Bytes, LineFault, Memory, ReadFault};
 use covlist::put_shown_name;
 use covpages::PagesFault;
 use covpaths::RuleFault;
+use covworld::Reason;
 
 /// Appends a number and a space, and then `one` if the number is 1, otherwise `many`.
 fn put_counted(number: u64, one: &[u8], many: &[u8], lines: &mut Bytes) -> Result<(), Memory>
@@ -22,7 +23,7 @@ fn put_counted(number: u64, one: &[u8], many: &[u8], lines: &mut Bytes) -> Resul
 }
 
 /// Appends the name of the file that the line is about, and a colon.
-fn put_name(name: &[u8], lines: &mut Bytes) -> Result<(), Memory>
+pub(crate) fn put_name(name: &[u8], lines: &mut Bytes) -> Result<(), Memory>
     ensures { OnOk result (lines.new ≡ lines.old ++ (shown_name name.now ++ codes ": ")) }
 {
     put_shown_name(name, lines)?;
@@ -57,11 +58,59 @@ fn put_told_at(name: &[u8], line: u64, words: &[u8], lines: &mut Bytes) -> Resul
     lines.append(b"\n")
 }
 
-/// Appends the line about the file called `name`, which can't be read.
-pub(crate) fn put_unreadable(name: &[u8], lines: &mut Bytes) -> Result<(), Memory>
-    ensures { OnOk result (lines.new ≡ lines.old ++ unreadable_line name.now) }
+/// Appends the line about the file called `name`, which can't be read for this `reason`.
+pub(crate) fn put_unreadable(
+    name: &[u8],
+    reason: Reason,
+    lines: &mut Bytes,
+) -> Result<(), Memory>
+    ensures { OnOk result (lines.new ≡ lines.old ++ unreadable_line name.now reason) }
 {
-    put_told(name, b"can't be read", lines)
+    put_name(name, lines)?;
+    lines.append(read_words(reason))?;
+    lines.append(reason_hint(reason))?;
+    lines.append(b"\n")
+}
+
+/// Why a file can't be read.
+fn read_words(reason: Reason) -> &'static [u8]
+    ensures { result.now ≡ words_of_read reason }
+{
+    system_words(reason, b"can't be read")
+}
+
+/// The system's words for a reason; `otherwise` if the reason has none.
+fn system_words(reason: Reason, otherwise: &'static [u8]) -> &'static [u8]
+    ensures { result.now ≡ words_of_system reason otherwise.now }
+{
+    match reason {
+        Reason::Missing => b"No such file or directory",
+        Reason::Denied => b"Permission denied",
+        Reason::Directory => b"Is a directory",
+        Reason::NoDirectory => b"Not a directory",
+        Reason::Full => b"No space left on device",
+        Reason::Quota => b"Disk quota exceeded",
+        Reason::ReadOnly => b"Read-only file system",
+        Reason::TooLarge => b"File too large",
+        Reason::Other => otherwise,
+    }
+}
+
+/// What may have happened where a tracefile was named.
+fn reason_hint(reason: Reason) -> &'static [u8]
+    ensures { result.now ≡ hint_of_reason reason }
+{
+    match reason {
+        Reason::Directory => b": was a pattern not quoted?",
+        Reason::Missing
+        | Reason::Denied
+        | Reason::NoDirectory
+        | Reason::Full
+        | Reason::Quota
+        | Reason::ReadOnly
+        | Reason::TooLarge
+        | Reason::Other => b"",
+    }
 }
 
 /// Appends the line about the file called `name`, which is no tracefile but of this `kind`.
@@ -311,17 +360,31 @@ pub(crate) fn put_expected(expected: u64, read: u64, lines: &mut Bytes) -> Resul
     lines.append(b"\n")
 }
 
-/// Appends the line about the file called `name`, which can't be written. `pages` is the folder that was written before.
-pub(crate) fn put_unwritten(
-    name: &[u8],
-    pages: Option<&str>,
-    lines: &mut Bytes,
-) -> Result<(), Memory>
-    ensures { OnOk result (lines.new ≡ lines.old ++ unwritten_line name.now (option_map (λ name. name.now) pages.entry)) }
+/// Appends the line about the folder called `name`, which can't be written for this `reason`.
+fn put_unwritten(name: &[u8], reason: Reason, lines: &mut Bytes) -> Result<(), Memory>
+    ensures { OnOk result (lines.new ≡ lines.old ++ unwritten_line name.now reason None) }
 {
     put_name(name, lines)?;
-    lines.append(b"can't be written")?;
-    put_but_written(None, pages, lines)?;
+    lines.append(write_words(reason))?;
+    put_unwritten_end(None, lines)
+}
+
+/// Why a file or a folder can't be written.
+pub(crate) fn write_words(reason: Reason) -> &'static [u8]
+    ensures { result.now ≡ words_of_write reason }
+{
+    system_words(reason, b"can't be written")
+}
+
+/// Appends the end of the line about a file that can't be written, after its reason. `pages` is the folder that was written before.
+pub(crate) fn put_unwritten_end(pages: Option<&str>, lines: &mut Bytes) -> Result<(), Memory>
+    ensures { OnOk result (lines.new ≡ lines.old ++ (but_pages (option_map (λ name. name.now) pages.entry) ++ codes "\n")) }
+{
+    if let Some(folder) = pages {
+        lines.append(b", but ")?;
+        put_shown_name(folder.as_bytes(), lines)?;
+        lines.append(b" is written")?;
+    }
     lines.append(b"\n")
 }
 
@@ -375,7 +438,7 @@ pub(crate) fn put_pages_fault(
 {
     match fault {
         PagesFault::Foreign => put_told(name, b"has files that html didn't write", lines),
-        PagesFault::Unwritten => put_unwritten(name, None, lines),
+        PagesFault::Unwritten(reason) => put_unwritten(name, reason, lines),
         PagesFault::Refused(told) => lines.append(told.get()),
         PagesFault::Memory => Err(Memory),
     }
@@ -405,7 +468,7 @@ pub(crate) fn put_call_fault(fault: CallFault<'_>, lines: &mut Bytes) -> Result<
         }
         CallFault::Twice(name) => put_told(name.as_bytes(), b"named twice", lines),
         CallFault::OneFile(first, name) => put_one_file(first.as_bytes(), name.as_bytes(), lines),
-        CallFault::UnreadList(list) => put_unreadable(list, lines),
+        CallFault::UnreadList(list, reason) => put_told(list, read_words(reason), lines),
         CallFault::LongList(list) => put_told(list, b"more than 64 MiB", lines),
         CallFault::NotText(list, number) => {
             put_told_at(list, number, b"the name isn't UTF-8", lines)

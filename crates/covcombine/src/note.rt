@@ -7,6 +7,7 @@ use crate::stranger::{Stranger, first_line};
 use covdata::{Bytes, Memory, ReadFault};
 use covpacked::PackedSubmission;
 use covpaths::UsedRules;
+use covworld::Reason;
 use std::alloc::Global;
 
 /// How many sections, items and inconsistent lines (`odd`) the chunks of a tracefile have so far. Numbers saturate at 2^64 - 1.
@@ -47,8 +48,8 @@ impl Counts {
 /// What came of a file.
 #[derive(Drop)]
 pub(crate) enum Note {
-    /// The file can't be read.
-    Unreadable,
+    /// The file can't be read, for this reason.
+    Unreadable(Reason),
     /// The first bytes are those of another kind of file.
     Strange(Stranger),
     /// The tracefile has no item. `begins` is its first line, as far as the line was looked at.
@@ -70,7 +71,7 @@ impl Note {
     {
         match self {
             Note::Merged { .. } => true,
-            Note::Unreadable | Note::Strange(_) | Note::NoRecord { .. } | Note::Faulty(_) => false,
+            Note::Unreadable(_) | Note::Strange(_) | Note::NoRecord { .. } | Note::Faulty(_) => false,
         }
     }
 
@@ -80,7 +81,7 @@ impl Note {
     {
         match self {
             Note::Merged { used, .. } => used.get(rule),
-            Note::Unreadable | Note::Strange(_) | Note::NoRecord { .. } | Note::Faulty(_) => false,
+            Note::Unreadable(_) | Note::Strange(_) | Note::NoRecord { .. } | Note::Faulty(_) => false,
         }
     }
 
@@ -89,7 +90,7 @@ impl Note {
         ensures { result ≡ note_status self.now }
     {
         match self {
-            Note::Unreadable => 1,
+            Note::Unreadable(_) => 1,
             Note::Faulty(_) => 4,
             Note::Strange(_) | Note::NoRecord { .. } | Note::Merged { .. } => 5,
         }

@@ -129,8 +129,9 @@ pub(crate) fn open_file<F: Folder>(
     ensures opened { IfOk result (IsOpenedFor F.File.left F.File.failed_reads (folder_data F.Folder F.File.Source folder.now) new_names.now strictness name.now Unopened) }
     ensures ended { IfErr result (EndsWith (IsOfFile (folder_data F.Folder F.File.Source folder.now) new_names.now strictness name.now)) }
 {
-    let Ok(file) = folder.open(name) else {
-        return Err(Stop::Ended(Note::Unreadable));
+    let file = match folder.open(name) {
+        Ok(file) => file,
+        Err(reason) => return Err(Stop::Ended(Note::Unreadable(reason))),
     };
     let mut source = file.source;
     let first = read_first(alloc, &mut source)?;

@@ -9,12 +9,13 @@ ghost use Rattle.covsession.specs.declared.session.fault.SessionFault.TheVariant
 ghost use Rattle.covworld.specs.Folder.{folder_data};
 ghost use Rattle.covworld.specs.Streams.{CanWrite, Complains, Withholds};
 ghost use Rattle.covcombine.specs.Combine.{EndingData, Gives};
+ghost use Rattle.covcombine.specs.Messages.{write_words as words_of_write};
 ghost use Rattle.covcombine.specs.Combined.{AreGivenIfRoom, HasNoPages, HasPages, IsPrinted, IsReported, given_status as status_for, out_of_memory};
 ghost use Rattle.covcombine.specs.Steps.{CanReport, IsPagesFaultTold};
 ghost use Rattle.covcombine.specs.View.{ending_data, given_data, pages_data, texts_data};
 
 use crate::ending::{Ending, Given, Pages, Texts};
-use crate::messages::{put_cut, put_pages_fault, put_unwritten};
+use crate::messages::{put_cut, put_name, put_pages_fault, put_unwritten_end, write_words};
 use covdata::{Bytes, Memory};
 use covhtml::PointsTable;
 use covpages::{PagesFault, PagesWork, write_pages};
@@ -22,7 +23,7 @@ use covreport::Table;
 use covsession::{SessionFault, line_of};
 use covstream::{Sink, Source};
 use covworld::{
-    Folder, FolderWriter, OutputFault, OutputFolder, ReadyText, Sinks, World, write_file,
+    Folder, FolderWriter, OutputFault, OutputFolder, ReadyText, Reason, Sinks, World, write_file,
 };
 use std::alloc::Global;
 
@@ -168,8 +169,8 @@ fn give_texts<P: OutputFolder, I: Source, O: Sink, E: Sink, T: Table<Global>>(
     };
     match write_file(name, tracefile, &mut world.files) {
         Ok(()) => print(overview, warnings, missed.get(), cut, &mut world.sinks),
-        Err(OutputFault::Failed) => {
-            world.sinks.say(warnings, lines.unwritten.get());
+        Err(OutputFault::Failed(reason)) => {
+            say_unwritten(reason, warnings, &lines, &mut world.sinks);
             1
         }
         Err(OutputFault::Memory) => report_no_memory(&mut world.sinks),
@@ -179,30 +180,50 @@ fn give_texts<P: OutputFolder, I: Source, O: Sink, E: Sink, T: Table<Global>>(
 /// The lines about failures to write, which are allocated before the texts are given.
 #[derive(Drop)]
 struct FailureLines {
-    /// The file can't be written. Empty if no file is named.
-    unwritten: Bytes,
+    /// The front of the line about the file, before the reason. Empty if no file is named.
+    front: Bytes,
+    /// The end of this line, after the reason.
+    end: Bytes,
     /// The output can't be written.
     cut: Bytes,
 }
 
 impl FailureLines {
-    ghost use Rattle.std.specs.Prelude.{◌≡◌, ℕ, List, Some, option_map, IfOk};
-    ghost use Rattle.covcombine.specs.Messages.{cut_line, unwritten_line};
+    ghost use Rattle.std.specs.Prelude.{◌≡◌, ◌++◌, ℕ, List, Some, codes, option_map, IfOk};
+    ghost use Rattle.covlist.specs.Shown.{shown_name};
+    ghost use Rattle.covcombine.specs.Messages.{but_pages, cut_line};
 
     /// The lines for the file called `file`, after the folder called `pages` was written.
     fn of(alloc: Global, file: Option<&str>, pages: Option<&str>) -> Result<FailureLines, Memory>
-        ensures unwritten { IfOk result (λ lines. (name : List ℕ) → option_map (λ name. name.now) file.entry ≡ Some name
-            → lines.unwritten ≡ unwritten_line name (option_map (λ name. name.now) pages.entry)) }
+        ensures front { IfOk result (λ lines. (name : List ℕ) → option_map (λ name. name.now) file.entry ≡ Some name → lines.front ≡ shown_name name ++ codes ": ") }
+        ensures end { IfOk result (λ lines. lines.end ≡ but_pages (option_map (λ name. name.now) pages.entry) ++ codes "\n") }
         ensures cut { IfOk result (λ lines. lines.cut ≡ cut_line (option_map (λ name. name.now) file.entry) (option_map (λ name. name.now) pages.entry)) }
     {
-        let mut unwritten = Bytes::new(alloc);
+        let mut front = Bytes::new(alloc);
         if let Some(name) = file {
-            put_unwritten(name.as_bytes(), pages, &mut unwritten)?;
+            put_name(name.as_bytes(), &mut front)?;
         }
+        let mut end = Bytes::new(alloc);
+        put_unwritten_end(pages, &mut end)?;
         let mut cut = Bytes::new(alloc);
         put_cut(file, pages, &mut cut)?;
-        Ok(FailureLines { unwritten, cut })
+        Ok(FailureLines { front, end, cut })
     }
+}
+
+/// Writes to the error stream, after `warnings`, that a file can't be written for this `reason`.
+fn say_unwritten<O: Sink, E: Sink>(
+    reason: Reason,
+    warnings: &[u8],
+    lines: &FailureLines,
+    sinks: &mut Sinks<O, E>,
+)
+    requires { sinks.old.failed_faults < 2 ^ 62 }
+    ensures said { Complains (warnings.now ++ (lines.now.front ++ (words_of_write reason ++ lines.now.end))) sinks.old sinks.new }
+    ensures withheld { Withholds sinks.old sinks.new }
+{
+    sinks.say(warnings, lines.front.get());
+    sinks.say(write_words(reason), lines.end.get());
 }
 
 /// Prints `text`, and then `warnings` and `missed` to the error stream. Returns the exit status. `cut` is the last line if the text

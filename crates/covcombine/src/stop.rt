@@ -5,6 +5,7 @@ use covdata::Memory;
 use covlarge::PieceFault;
 use covstream::BlockFault;
 use covworkers::LateFault;
+use covworld::Reason;
 
 /// Why a file gives no further chunk.
 #[derive(Drop)]
@@ -49,7 +50,7 @@ impl From<BlockFault> for Stop {
 
     fn from(fault: BlockFault) -> Stop {
         match fault {
-            BlockFault::Unreadable => Stop::Ended(Note::Unreadable),
+            BlockFault::Unreadable => Stop::Ended(Note::Unreadable(Reason::Other)),
             BlockFault::Memory => Stop::Memory,
         }
     }
@@ -64,7 +65,7 @@ impl From<PieceFault> for Stop {
     fn from(fault: PieceFault) -> Stop {
         match fault {
             PieceFault::Refused(fault) => Stop::Ended(Note::Faulty(fault)),
-            PieceFault::Unreadable => Stop::Ended(Note::Unreadable),
+            PieceFault::Unreadable => Stop::Ended(Note::Unreadable(Reason::Other)),
             PieceFault::Memory => Stop::Memory,
         }
     }

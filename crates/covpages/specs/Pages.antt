@@ -173,7 +173,7 @@ IsWritten work sections files after warnings =
 -- why nothing was written: a strict call is refused for the lines about source files
 abbrev pub IsPagesFault : PagesWorkData → List SectionData → PagesFault → Type 0
 IsPagesFault work sections faults.Foreign = Unit {0}
-IsPagesFault work sections faults.Unwritten = Unit {0}
+IsPagesFault work sections (faults.Unwritten reason) = Unit {0}
 IsPagesFault work sections (faults.Refused lines) =
     (is_refused work.strictness lines ≡ true) × ((sources : List SourceData) × AreSources work sections (files_shown work sections) sources
     × (lines ≡ complaints_of work (files_shown work sections) sources))
@@ -187,15 +187,15 @@ AreUnwritten work sections fault files after =
 -- the status of a call whose pages weren't written
 abbrev pub pages_status : PagesFault → ℕ
 pages_status faults.Foreign = 1
-pages_status faults.Unwritten = 1
+pages_status (faults.Unwritten reason) = 1
 pages_status (faults.Refused lines) = 5
 pages_status faults.Memory = 3
 
 abbrev pub of_output : OutputFault → PagesFault
-of_output output_faults.Failed = faults.Unwritten
+of_output (output_faults.Failed reason) = faults.Unwritten reason
 of_output output_faults.Memory = faults.Memory
 
 abbrev pub of_folder : FolderFault → PagesFault
 of_folder folder_faults.Foreign = faults.Foreign
-of_folder folder_faults.Failed = faults.Unwritten
+of_folder (folder_faults.Failed reason) = faults.Unwritten reason
 of_folder folder_faults.Memory = faults.Memory

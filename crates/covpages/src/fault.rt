@@ -1,7 +1,7 @@
 //! Why pages can't be written.
 
 use covdata::{Bytes, Memory};
-use covworld::{FolderFault, OutputFault};
+use covworld::{FolderFault, OutputFault, Reason};
 use std::alloc::AllocError;
 
 /// Why pages can't be written. The older folder, if there is one, is as it was.
@@ -9,8 +9,8 @@ use std::alloc::AllocError;
 pub enum PagesFault {
     /// The folder has files that are no pages.
     Foreign,
-    /// The folder, or a file of it, can't be written.
-    Unwritten,
+    /// The folder, or a file of it, can't be written, for this reason.
+    Unwritten(Reason),
     /// The call is strict, and these are the lines about source files that can't be shown.
     Refused(Bytes),
     /// An allocation failed.
@@ -26,7 +26,7 @@ impl PagesFault {
         ensures { result ≡ pages_status self.now }
     {
         match self {
-            PagesFault::Foreign | PagesFault::Unwritten => 1,
+            PagesFault::Foreign | PagesFault::Unwritten(_) => 1,
             PagesFault::Refused(_) => 5,
             PagesFault::Memory => 3,
         }
@@ -63,7 +63,7 @@ impl From<OutputFault> for PagesFault {
 
     fn from(fault: OutputFault) -> PagesFault {
         match fault {
-            OutputFault::Failed => PagesFault::Unwritten,
+            OutputFault::Failed(reason) => PagesFault::Unwritten(reason),
             OutputFault::Memory => PagesFault::Memory,
         }
     }
@@ -78,7 +78,7 @@ impl From<FolderFault> for PagesFault {
     fn from(fault: FolderFault) -> PagesFault {
         match fault {
             FolderFault::Foreign => PagesFault::Foreign,
-            FolderFault::Failed => PagesFault::Unwritten,
+            FolderFault::Failed(reason) => PagesFault::Unwritten(reason),
             FolderFault::Memory => PagesFault::Memory,
         }
     }

@@ -12,8 +12,7 @@ use covdata::{Bytes, MAX_BYTES, Memory};
 use covhtml::Row;
 use covline::lines;
 use covlist::put_shown_name;
-use covstream::BlockFault;
-use covworld::{Folder, file_text};
+use covworld::{FileFault, Folder, file_text};
 use std::alloc::Global;
 
 /// What came of reading a source file.
@@ -53,8 +52,8 @@ pub(crate) fn read_source<F: Folder>(
     };
     match file_text(folder, alloc, name) {
         Ok(text) => Ok(source_of(text, rows)),
-        Err(BlockFault::Unreadable) => Ok(Source::Unreadable),
-        Err(BlockFault::Memory) => Err(Memory),
+        Err(FileFault::Unreadable(_)) => Ok(Source::Unreadable),
+        Err(FileFault::Memory) => Err(Memory),
     }
 }
 

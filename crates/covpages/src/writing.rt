@@ -32,7 +32,7 @@ use covhtml::{
 };
 use covreport::{Choice, chosen_totals};
 use covtable::FileTotals;
-use covworld::{Folder, FolderWriter, OutputFault, OutputFolder, write_text};
+use covworld::{Folder, FolderWriter, OutputFault, OutputFolder, Reason, write_text};
 use std::alloc::Global;
 
 /// The maximum number of source files that the index lists itself. With more, each directory has a page.
@@ -248,7 +248,7 @@ fn write_page<D: OutputFolder>(
 {
     match std::str::from_utf8(name) {
         Ok(name) => write_text(alloc, name, page, report),
-        Err(_) => Err(OutputFault::Failed),
+        Err(_) => Err(OutputFault::Failed(Reason::Other)),
     }
 }
 

@@ -4,8 +4,7 @@ use crate::counted::Counted;
 use crate::counts::Counts;
 use crate::line::ERASED;
 use crate::showing::{millis_of, started};
-use covstream::Failed;
-use covworld::{FileId, Folder, Opened};
+use covworld::{FileId, Folder, Opened, Reason};
 use std::alloc::{AllocGlobal, Global};
 use std::io::{IsTerminal, Write};
 use std::rt::Files;
@@ -66,14 +65,14 @@ impl<F: Folder, R: Files + Clock, T: Write + Copy> Folder for ShowsProgress<F, R
 
     type File = Counted<F::File>;
 
-    fn open(&self, name: &str) -> Result<Opened<Counted<F::File>>, Failed> {
+    fn open(&self, name: &str) -> Result<Opened<Counted<F::File>>, Reason> {
         match self.folder.open(name) {
             Ok(opened) => Ok(Opened {
                 source: Counted::new(opened.source, counting(&self.counts)),
                 awaited: opened.awaited,
                 name: opened.name,
             }),
-            Err(failed) => Err(failed),
+            Err(reason) => Err(reason),
         }
     }
 

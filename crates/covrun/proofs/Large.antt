@@ -25,6 +25,7 @@ use Rattle.covrun.specs.Check.{IsAnswered}
 use Rattle.covrun.specs.Files.{EndsBy, IsOpenedFor, IsTakenFrom, IsToldFor, IsWholeFormat, MayFailAs, MayHaveOutcome, MayTake, TakesLast, most_parts}
 use Rattle.covworld.specs.Folder.{FolderData, folder_data}
 use Rattle.covworld.specs.declared.folder.Folder.{Ghosts as FolderOf}
+use Rattle.covworld.specs.declared.reason.Reason.TheVariants.{Other}
 use Rattle.covstream.specs.declared.stream.Source.{Ghosts as SourceOf}
 use Rattle.covrun.specs.Large.{IsRefusedFor, IsTaken, IsTakenIf}
 use Rattle.covrun.specs.Strict.{is_clean}
@@ -45,7 +46,7 @@ pub source_fails : {F File : Type 0} (of : FolderOf F File) (file : SourceOf Fil
     → (name : List ℕ) (source : File) → of.may_open folder name source → Keeps (of.holds folder name) (file.left source) → MayFailFrom file.left file.failed_reads source
     → (folder_data of file folder).MayFail name
 source_fails of file folder name source may keeps (after, bytes, given, failed) =
-    inr (record { opened = source; may_open = may; keeps = keeps; after = after; bytes = bytes; given = given; failed = failed })
+    (Other, inr (refl, record { opened = source; may_open = may; keeps = keeps; after = after; bytes = bytes; given = given; failed = failed }))
 
 -- ---- a check
 

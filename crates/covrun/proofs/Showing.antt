@@ -22,6 +22,7 @@ use Rattle.covworld.specs.Folder.{FolderData}
 use Rattle.covworld.specs.OutputFiles.{OutputFilesData}
 use Rattle.covworld.specs.Streams.{SinksData, Complains, Withholds}
 use Rattle.covworld.specs.World.{WorldData}
+use Rattle.covworld.specs.declared.reason.Reason.{Reason}
 use Rattle.covrun.specs.Call.{AreTextsIn, IsEndingPrinted, IsEndingReported, IsFailure, IsShown, PagesEnd, WorkEnds, pages_complaint, pages_work}
 use Rattle.covrun.specs.Ending.{EndingData, Prints, FallsShort, BadLine, BadWords, Unreadable, Stopped, Ungathered, Refuses, IsUnclean, asked_text, complaints, of_collected, ran_out, strict_lines, unless_any, with_shortfalls}
 use Rattle.covrun.specs.Naming.{naming_asked, naming_for, naming_of, naming_read}
@@ -203,11 +204,11 @@ foreign_told folder words status old new are (inl told) =
     (pages_faults.Foreign, inl refl, (told.0, told.1, subst (λ (ws : List ℕ). Complains (shown_name folder ++ ws) old new) are told.2))
 foreign_told folder words status old new are (inr told) = (pages_faults.Memory, inr refl, told)
 
-pub unwritten_told : (folder words : List ℕ) (status : ℕ) (old new : SinksData) → words ≡ said (codes ": can't write")
-    → IsFolderTold folder words status old new ⊎ IsFaultTold folder pages_faults.Memory status old new → TellsFor folder pages_faults.Unwritten status old new
-unwritten_told folder words status old new are (inl told) =
-    (pages_faults.Unwritten, inl refl, (told.0, told.1, subst (λ (ws : List ℕ). Complains (shown_name folder ++ ws) old new) are told.2))
-unwritten_told folder words status old new are (inr told) = (pages_faults.Memory, inr refl, told)
+pub unwritten_told : (reason : Reason) (folder words : List ℕ) (status : ℕ) (old new : SinksData) → words ≡ said (codes ": can't write")
+    → IsFolderTold folder words status old new ⊎ IsFaultTold folder pages_faults.Memory status old new → TellsFor folder (pages_faults.Unwritten reason) status old new
+unwritten_told reason folder words status old new are (inl told) =
+    (pages_faults.Unwritten reason, inl refl, (told.0, told.1, subst (λ (ws : List ℕ). Complains (shown_name folder ++ ws) old new) are told.2))
+unwritten_told reason folder words status old new are (inr told) = (pages_faults.Memory, inr refl, told)
 
 pub refused_told : (folder lines : List ℕ) (status : ℕ) (old new : SinksData) → IsEndingPrinted (IsUnclean lines) status old new → TellsFor folder (pages_faults.Refused lines) status old new
 refused_told folder lines status old new told = (pages_faults.Refused lines, inl refl, told)

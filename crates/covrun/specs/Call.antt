@@ -196,7 +196,7 @@ pages_work folder work pages = asked_pages folder (string_bytes pages.folder) pa
 -- what is written to the stream for faults if pages weren't written
 abbrev pub pages_complaint : (folder : List ℕ) → PagesFault → List ℕ
 pages_complaint folder pages_faults.Foreign = shown_name folder ++ said (codes ": has files that html didn't write")
-pages_complaint folder pages_faults.Unwritten = shown_name folder ++ said (codes ": can't write")
+pages_complaint folder (pages_faults.Unwritten reason) = shown_name folder ++ said (codes ": can't write")
 pages_complaint folder (pages_faults.Refused lines) = lines
 pages_complaint folder pages_faults.Memory = said (words_of_fault faults.Memory)
 

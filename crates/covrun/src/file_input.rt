@@ -9,9 +9,8 @@ use covcommand::{LcovVersion, Strictness};
 use covdata::{Bytes, Memory};
 use covjobs::Input;
 use covlarge::{LargeTracefile, NextPiece, PieceFault};
-use covstream::BlockFault;
 use covworkers::{Given, LateFault, LateInput, Part};
-use covworld::{Folder, file_text};
+use covworld::{FileFault, Folder, file_text};
 use std::alloc::Global;
 
 /// A file that is read when its turn comes. A large tracefile is read in chunks, and `opened` is its rest after the first chunk.
@@ -71,8 +70,8 @@ impl<'a, F: Folder> FileInput<'a, F> {
     {
         match file_text(self.folder, alloc, self.name) {
             Ok(text) => read_text(alloc, self.format, self.strictness, text),
-            Err(BlockFault::Unreadable) => Err(LateFault::Unreadable),
-            Err(BlockFault::Memory) => Err(LateFault::Memory),
+            Err(FileFault::Unreadable(_)) => Err(LateFault::Unreadable),
+            Err(FileFault::Memory) => Err(LateFault::Memory),
         }
     }
 

@@ -23,8 +23,8 @@ use covdata::{Bytes, ReadFault};
 use covlarge::{PieceFault, check_large};
 use covlist::put_shown_name;
 use covsession::{SessionFault, refused_line};
-use covstream::{BlockFault, Sink};
-use covworld::{Folder, Sinks, file_text};
+use covstream::Sink;
+use covworld::{FileFault, Folder, Sinks, file_text};
 use std::alloc::Global;
 
 /// The report about a checked file, which is written without allocating.
@@ -114,8 +114,8 @@ fn examine_text<F: Folder>(
     let shown = shown_name(alloc, name.as_bytes())?;
     match file_text(folder, alloc, name) {
         Ok(text) => report_on_text(alloc, format, strictness, &shown, text.get()),
-        Err(BlockFault::Unreadable) => report_on_unread(alloc, &shown),
-        Err(BlockFault::Memory) => Err(SessionFault::Memory),
+        Err(FileFault::Unreadable(_)) => report_on_unread(alloc, &shown),
+        Err(FileFault::Memory) => Err(SessionFault::Memory),
     }
 }
 

@@ -72,7 +72,7 @@ fn write_answer<P: OutputFolder, I: Source, O: Sink, E: Sink, T: Table<Global>>(
     let ReadyAnswer { text, shortfalls } = answer;
     match write_file(name, text, &mut world.files) {
         Ok(()) => say_shortfalls(shortfalls.get(), &mut world.sinks),
-        Err(OutputFault::Failed) => complain(b"", unwritten.get(), 1, &mut world.sinks),
+        Err(OutputFault::Failed(_)) => complain(b"", unwritten.get(), 1, &mut world.sinks),
         Err(OutputFault::Memory) => {
             say_failure(Failure::Stopped(SessionFault::Memory), &mut world.sinks)
         }

@@ -156,7 +156,7 @@ fn report_fault<O: Sink, E: Sink>(
 {
     match fault {
         PagesFault::Foreign => report_folder(alloc, name, FOREIGN, sinks),
-        PagesFault::Unwritten => report_folder(alloc, name, CANT_WRITE, sinks),
+        PagesFault::Unwritten(_) => report_folder(alloc, name, CANT_WRITE, sinks),
         PagesFault::Refused(lines) => say_failure(Failure::Unclean(lines), sinks),
         PagesFault::Memory => say_failure(Failure::Stopped(SessionFault::Memory), sinks),
     }

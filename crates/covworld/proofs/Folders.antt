@@ -1,9 +1,9 @@
 -- What is read of a folder's files.
-use Rattle.std.proofs.Common.{inl, inr, ℕ, suc, ◌≡◌, ◌≤◌, List, ◌++◌, length, take, Option, None, Some, [], sym, ap, subst, arith, ◌∙◌, append-nil}
+use Rattle.std.proofs.Common.{inl, inr, ℕ, suc, ◌≡◌, ◌≤◌, List, ◌++◌, length, take, Option, None, Some, [], refl, sym, ap, subst, arith, ◌∙◌, append-nil}
 use Rattle.std.proofs.Math.Seq.{take-append_seam}
 use Rattle.std.proofs.lemmas.List.{take_all}
 use Rattle.std.specs.Io.KnownBytes.{Keeps}
-use Rattle.covworld.specs.Files.{IsUnread}
+use Rattle.covworld.specs.Files.{IsUnread, of_block}
 use Rattle.covworld.specs.Folder.{IsTextAtMost, folder_data}
 use Rattle.covworld.specs.declared.folder.Folder.{Ghosts as FolderOf}
 use Rattle.covstream.specs.Blocks.{HasReadAtMost, HasReadOn, IsReadFault}
@@ -35,8 +35,8 @@ read_whole most left left_after empty text none (bytes, read, is, few) =
 -- a read of an open file that stopped leaves the file unread
 pub unread : {F File : Type 0} (of : FolderOf F File) (file : SourceOf File) (folder : F) (name : List ℕ) (opened after : File) (fault : BlockFault)
     → of.may_open folder name opened → Keeps (of.holds folder name) (file.left opened)
-    → IsReadFault (file.left opened) (file.left after) (file.failed_reads opened) (file.failed_reads after) fault → IsUnread (folder_data of file folder) name fault
-unread of file folder name opened after Unreadable may_open keeps (bytes, given, failed) = inr (record {
+    → IsReadFault (file.left opened) (file.left after) (file.failed_reads opened) (file.failed_reads after) fault → IsUnread (folder_data of file folder) name (of_block fault)
+unread of file folder name opened after Unreadable may_open keeps (bytes, given, failed) = inr (refl, record {
   opened = opened;
   may_open = may_open;
   keeps = keeps;

@@ -5,6 +5,8 @@ use Rattle.std.specs.Prelude.{◌≡◌, ◌⊎◌, ◌<◌, ℕ, zero, suc, Lis
 use Rattle.covread.specs.Outcome.{max_bytes}
 use Rattle.covstream.specs.declared.stream.Source.{Ghosts as SourceOf}
 use Rattle.covworld.specs.declared.folder.FileId.{FileId}
+use Rattle.covworld.specs.declared.reason.Reason.{Reason}
+use Rattle.covworld.specs.declared.reason.Reason.TheVariants.{Other}
 use Rattle.covworld.specs.declared.folder.Folder.{Ghosts as FolderOf}
 
 -- the id of the file with these numbers. No file has the number 0, so it says that the id isn't known
@@ -12,10 +14,12 @@ abbrev pub file_id : (device file : ℕ) → Option FileId
 file_id device zero = None
 file_id device (suc below) = Some (record { device = device; file = suc below })
 
--- the folder that a call reads files from. `holds`: the bytes of the file with this name, if the folder knows them. `MayFail`:
--- this file may fail to be read. `MayBe`: this name may be of the file with this id, or of one whose id isn't known
+-- the folder that a call reads files from. `holds`: the bytes of the file with this name, if the folder knows them. `MayFailFor`:
+-- this file may fail to be read for this reason. `MayFail`: it may for some reason. `MayBe`: this name may be of the file with this
+-- id, or of one whose id isn't known
 pub record FolderData : Type 1 where
   pub holds : List ℕ → Option (List ℕ)
+  pub MayFailFor : List ℕ → Reason → Type 0
   pub MayFail : List ℕ → Type 0
   pub MayBe : List ℕ → Option FileId → Type 0
 
@@ -30,12 +34,19 @@ pub record HasFailed {File : Type 0} (held : Option (List ℕ)) (MayOpen : File 
   pub given : Consumes (left opened) (left after) bytes
   pub failed : failed_reads opened < failed_reads after
 
--- the folder as data, from what its type and the type of its open files state. A file may fail to be read if the folder may refuse to
--- open it, or if a read of it failed once it was open
+-- a file may fail to be read for this reason: the folder may refuse to open it for it, or a read of it failed once it was open, whose
+-- reason isn't known
+abbrev pub FailsFor : {F File : Type 0} → FolderOf F File → SourceOf File → F → (name : List ℕ) → Reason → Type 0
+FailsFor of file folder name reason =
+    of.may_refuse folder name reason
+    ⊎ ((reason ≡ Other) × HasFailed (of.holds folder name) (of.may_open folder name) file.left file.failed_reads)
+
+-- the folder as data, from what its type and the type of its open files state
 abbrev pub folder_data : {F File : Type 0} → FolderOf F File → SourceOf File → F → FolderData
 folder_data of file folder = record {
   holds = of.holds folder;
-  MayFail = λ name. of.may_refuse folder name ⊎ HasFailed (of.holds folder name) (of.may_open folder name) file.left file.failed_reads;
+  MayFailFor = FailsFor of file folder;
+  MayFail = λ name. (reason : Reason) × FailsFor of file folder name reason;
   MayBe = of.may_be folder;
 }
 

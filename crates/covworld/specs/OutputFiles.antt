@@ -30,7 +30,7 @@ AddsName name names after = after ≡ names ++ name ∷ []
 
 -- a file can't be begun only for this reason, unless memory ran out
 abbrev pub RefusedOnlyIf : (MayRefuse : Type 0) → OutputFault → Type 0
-RefusedOnlyIf MayRefuse Failed = MayRefuse
+RefusedOnlyIf MayRefuse (Failed reason) = MayRefuse
 RefusedOnlyIf MayRefuse Memory = Unit {0}
 
 -- one more file was finished, with this name and this text, and nothing else changed
@@ -79,13 +79,13 @@ IsFolderWritten name written files after =
 
 -- a file that can't be begun or finished is counted, unless memory ran out
 abbrev pub CountsFault : OutputFault → (failed failed_after : ℕ) → Type 0
-CountsFault Failed failed after = after ≡ suc failed
+CountsFault (Failed reason) failed after = after ≡ suc failed
 CountsFault Memory failed after = after ≡ failed
 
 -- a folder that can't be begun is counted, unless memory ran out
 abbrev pub CountsFolderFault : FolderFault → (failed failed_after : ℕ) → Type 0
 CountsFolderFault folder_faults.Foreign failed after = after ≡ suc failed
-CountsFolderFault folder_faults.Failed failed after = after ≡ suc failed
+CountsFolderFault (folder_faults.Failed reason) failed after = after ≡ suc failed
 CountsFolderFault folder_faults.Memory failed after = after ≡ failed
 
 -- the name of standard output, which is no file

@@ -6,6 +6,7 @@ ghost use Rattle.covworld.specs.Files.{HasRead, IsUnread};
 ghost use Rattle.covworld.specs.Folder.{IsTextOf, folder_data};
 ghost use Rattle.covstream.specs.Blocks.{IsReadFault};
 
+use crate::file_fault::FileFault;
 use crate::folder::Folder;
 use covdata::{Bytes, MAX_BYTES};
 use covstream::{BLOCK_BYTES, BlockFault, Source, read_at_most};
@@ -34,14 +35,15 @@ pub fn read_text<S: Source>(
 }
 
 /// Reads the file called `name`, up to one byte more than the size limit of 64 MiB. The extra byte shows that the file is too long.
-/// Fails with `Unreadable` if the file can't be opened, or if a read of it failed.
-pub fn file_text<F: Folder>(folder: &F, alloc: Global, name: &str) -> Result<Bytes, BlockFault>
+/// Fails with `Unreadable` if the file can't be opened, or if a read of it failed. The reason of a failed read isn't known.
+pub fn file_text<F: Folder>(folder: &F, alloc: Global, name: &str) -> Result<Bytes, FileFault>
     ensures text { IfOk result (IsTextOf (F.holds folder.now name.now)) }
     ensures few { IfOk result (λ text. length text ≤ suc max_bytes) }
     ensures unread { IfErr result (IsUnread (folder_data F.Folder F.File.Source folder.now) name.now) }
 {
-    let Ok(opened) = folder.open(name) else {
-        return Err(BlockFault::Unreadable);
+    let opened = match folder.open(name) {
+        Ok(opened) => opened,
+        Err(reason) => return Err(FileFault::Unreadable(reason)),
     };
     let awaited = opened.awaited.min(MAX_KEPT as u64) as usize;
     let mut source = opened.source;

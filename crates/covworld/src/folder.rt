@@ -4,8 +4,9 @@ ghost use Rattle.std.specs.Prelude.{◌≡◌, ◌≢◌, ℕ, List, Option, Non
 ghost use Rattle.std.specs.Io.KnownBytes.{Keeps};
 
 use crate::named_file::open_named;
+use crate::reason::Reason;
 use covreport::Noted;
-use covstream::{Failed, FromRead, Source};
+use covstream::{FromRead, Source};
 use std::fs::{OpenFile, OpenOptions};
 use std::os::unix::fs::MetadataExt;
 use std::rt::Files;
@@ -50,12 +51,13 @@ impl FileId {
 /// that may change between two opens or during a read. A file's source counts a failed read, which consumes no bytes.
 pub trait Folder {
     ghost use Rattle.covworld.specs.declared.folder.FileId.{FileId};
+    ghost use Rattle.covworld.specs.declared.reason.Reason.{Reason};
 
     // The bytes of the file with this name, if the folder knows them.
     ghost holds: { Self → List ℕ → Option (List ℕ) };
 
-    // Whether opening the file with this name may fail.
-    ghost may_refuse: { Self → List ℕ → Type 0 };
+    // Whether opening the file with this name may fail for this reason.
+    ghost may_refuse: { Self → List ℕ → Reason → Type 0 };
 
     // Whether opening the file with this name may give this open file.
     ghost may_open: { Self → List ℕ → Self.File → Type 0 };
@@ -67,13 +69,13 @@ pub trait Folder {
     type File: Source + Drop;
 
     /// Opens the file called `name`, at its first byte.
-    fn open(&self, name: &str) -> Result<Opened<Self::File>, Failed>
+    fn open(&self, name: &str) -> Result<Opened<Self::File>, Reason>
         ensures bytes { IfOk result (λ opened. Keeps (holds self.now name.now) (Self.File.left opened.source)) }
         ensures calls { IfOk result (λ opened. Self.File.reads opened.source ≡ 0) }
         ensures failures { IfOk result (λ opened. Self.File.failed_reads opened.source ≡ 0) }
         ensures named { IfOk result (λ opened. opened.name.bytes ≡ name.now) }
         ensures opened { IfOk result (λ opened. may_open self.now name.now opened.source) }
-        ensures refused { IfErr result (λ _. may_refuse self.now name.now) };
+        ensures refused { IfErr result (may_refuse self.now name.now) };
 
     /// Which file `name` is of, or `None` if that isn't known. Doesn't open the file.
     fn look(&self, name: &str) -> Option<FileId>
@@ -106,7 +108,7 @@ impl<'a, R: Files> FromFiles<'a, R> {
 impl<'a, R: Files> Folder for FromFiles<'a, R> {
     ghost holds = { λ _ _. None };
 
-    ghost may_refuse = { λ _ _. Unit {0} };
+    ghost may_refuse = { λ _ _ _. Unit {0} };
 
     ghost may_open = { λ _ _ _. Unit {0} };
 
@@ -114,14 +116,17 @@ impl<'a, R: Files> Folder for FromFiles<'a, R> {
 
     type File = FromRead<R::File>;
 
-    fn open(&self, name: &str) -> Result<Opened<FromRead<R::File>>, Failed> {
+    /// The system opens a folder too, and only reading it fails. So a folder is refused here.
+    fn open(&self, name: &str) -> Result<Opened<FromRead<R::File>>, Reason> {
         let mut how = OpenOptions::new();
         how.read(true);
-        let Ok(file) = open_named(self.files, &how, name) else {
-            return Err(Failed);
-        };
-        let awaited = size_of(file.get());
-        Ok(file.into_opened(awaited))
+        match open_named(self.files, &how, name) {
+            Ok(file) => {
+                let awaited = size_of(file.get())?;
+                Ok(file.into_opened(awaited))
+            }
+            Err(error) => Err(Reason::of(&error)),
+        }
     }
 
     /// Follows links: the id is that of the file behind them.
@@ -133,10 +138,11 @@ impl<'a, R: Files> Folder for FromFiles<'a, R> {
     }
 }
 
-/// The length of `file` in bytes; 0 if the length is unknown, as for a pipe.
-fn size_of<F: OpenFile>(file: &F) -> u64 {
+/// The length of `file` in bytes; 0 if the length is unknown, as for a pipe. Fails for a folder.
+fn size_of<F: OpenFile>(file: &F) -> Result<u64, Reason> {
     match file.metadata() {
-        Ok(metadata) => metadata.len(),
-        Err(_) => 0,
+        Ok(found) if found.is_dir() => Err(Reason::Directory),
+        Ok(found) => Ok(found.len()),
+        Err(_) => Ok(0),
     }
 }

@@ -5,6 +5,7 @@ ghost use Rattle.std.specs.String.{string_bytes};
 ghost use Rattle.covworld.specs.OutputFiles.{AddsFolder, CountsFault, CountsFolderFault, FinishesFolder, IsEmptyIfKnown};
 
 use crate::output_folder::{IntoFiles, OutputFault, OutputFolder};
+use crate::reason::Reason;
 use crate::unfinished_folder::{
     FolderPlace, UnfinishedFolder, abandon_folder, begin_folder, finish_folder,
 };
@@ -17,8 +18,8 @@ use std::rt::Files;
 pub enum FolderFault {
     /// A folder of this name has files that no finished folder had, or folders. They would be lost.
     Foreign,
-    /// The folder can't be written.
-    Failed,
+    /// The folder can't be written, for this reason.
+    Failed(Reason),
     /// An allocation failed.
     Memory,
 }

@@ -22,11 +22,11 @@
 //! {
 //!     match file_text(folder, alloc, name) {
 //!         Ok(text) => sinks.put_out(text.get()),
-//!         Err(BlockFault::Unreadable) => {
+//!         Err(FileFault::Unreadable(_)) => {
 //!             sinks.say(name.as_bytes(), b": can't read\n");
 //!             Ok(())
 //!         }
-//!         Err(BlockFault::Memory) => Err(SessionFault::Memory),
+//!         Err(FileFault::Memory) => Err(SessionFault::Memory),
 //!     }
 //! }
 //! ```
@@ -35,14 +35,17 @@
 mod begun;
 mod block;
 mod block_printer;
+mod file_fault;
 mod files;
 mod folder;
 mod folder_writer;
 mod named_file;
+mod noting;
 mod output_folder;
 mod placed_names;
 mod printed_text;
 mod ready_text;
+mod reason;
 mod sinks;
 mod unfinished_file;
 mod unfinished_folder;
@@ -50,12 +53,14 @@ mod world;
 mod written_file;
 
 pub use covreport::Noted;
+pub use file_fault::FileFault;
 pub use files::{file_text, read_text};
 pub use folder::{FileId, Folder, FromFiles, Opened};
 pub use folder_writer::{FolderFault, FolderWriter};
 pub use output_folder::{IntoFiles, OutputFault, OutputFolder};
 pub use printed_text::PrintedText;
 pub use ready_text::ReadyText;
+pub use reason::Reason;
 pub use sinks::Sinks;
 pub use unfinished_file::UnfinishedFile;
 pub use unfinished_folder::{FolderPlace, UnfinishedFolder};

@@ -10,7 +10,9 @@ ghost use Rattle.std.specs.String.{string_bytes};
 ghost use Rattle.covworld.specs.OutputFiles.{path_in};
 
 use crate::folder::Opened;
+use crate::noting::Noting;
 use crate::placed_names::PlacedNames;
+use crate::reason::Reason;
 use covreport::Noted;
 use covstream::{Failed, FromRead, FromWrite, Sink, Source};
 use std::alloc::{AllocError, AllocGlobal, Global};
@@ -80,13 +82,13 @@ impl<F: io::Read> Named<F> {
 
 impl<F: io::Write> Named<F> {
     /// The file as a sink, with no failures counted yet.
-    pub(crate) fn into_sink(self) -> Named<FromWrite<F>>
+    pub(crate) fn into_sink(self) -> Named<FromWrite<Noting<F>>>
         ensures name { result.name ≡ self.name }
-        ensures failures { ⟦<Named<FromWrite<F>> as Sink>⟧.failed_writes result ≡ 0 }
+        ensures failures { ⟦<Named<FromWrite<Noting<F>>> as Sink>⟧.failed_writes result ≡ 0 }
     {
         let Named { file, name } = self;
         Named {
-            file: FromWrite::new(file),
+            file: FromWrite::new(Noting::new(file)),
             name,
         }
     }
@@ -128,13 +130,21 @@ impl<F: io::Write> Sink for Named<FromWrite<F>> {
     }
 }
 
-impl<F: io::Write + OpenFile + Drop> Named<FromWrite<F>> {
+impl<F: io::Write + Drop> Named<FromWrite<Noting<F>>> {
+    /// Closes the file. Returns why the last failed write to it failed.
+    pub(crate) fn into_reason(self) -> Reason {
+        let Named { file, .. } = self;
+        file.into_inner().into_reason()
+    }
+}
+
+impl<F: io::Write + OpenFile + Drop> Named<FromWrite<Noting<F>>> {
     /// Waits until all bytes of the file are on the disk, and closes the file. Some errors, such as a full disk, show no earlier.
     pub(crate) fn store(self) -> io::Result<StoredFile>
         ensures { IfOk result (λ stored. stored.name ≡ self.name) }
     {
         let Named { file, name } = self;
-        file.into_inner().sync_all()?;
+        file.into_inner().into_inner().sync_all()?;
         Ok(StoredFile { name })
     }
 }

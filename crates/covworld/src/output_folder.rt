@@ -9,6 +9,7 @@ use crate::begun::Begun;
 use crate::folder_writer::FolderFault;
 use crate::named_file::PlacedFolder;
 use crate::placed_names::PlacedNames;
+use crate::reason::Reason;
 use crate::unfinished_file::{UnfinishedFile, abandon_file, begin_file, finish_file};
 use covstream::Sink;
 use std::alloc::AllocGlobal;
@@ -18,8 +19,8 @@ use std::rt::Files;
 /// Why a file couldn't be begun or finished.
 #[derive(Clone, Copy, Debug, PartialEq, Eq)]
 pub enum OutputFault {
-    /// The file can't be written.
-    Failed,
+    /// The file can't be written, for this reason.
+    Failed(Reason),
     /// An allocation failed.
     Memory,
 }
@@ -75,8 +76,8 @@ pub trait OutputFolder {
         ensures good { OnOk result (failed self.new ≡ failed self.old) }
         ensures counted { IfErr result (λ fault. CountsFault fault (failed self.old) (failed self.new)) };
 
-    /// Drops the begun file after a failed write.
-    fn abandon(&mut self, file: Self::File)
+    /// Drops the begun file after a failed write. Returns why the write failed.
+    fn abandon(&mut self, file: Self::File) -> Reason
         requires failed { 1 ≤ Self.File.failed_writes file }
         requires few { failed self.old < 2 ^ 63 }
         ensures same { finished self.new ≡ finished self.old }
@@ -121,7 +122,7 @@ impl<'a, R: Files + RandomSource + AllocGlobal> IntoFiles<'a, R> {
         ensures names { self.new.names ≡ self.old.names }
     {
         match fault {
-            OutputFault::Failed => self.failed += 1,
+            OutputFault::Failed(_) => self.failed += 1,
             OutputFault::Memory => (),
         }
     }
@@ -134,7 +135,7 @@ impl<'a, R: Files + RandomSource + AllocGlobal> IntoFiles<'a, R> {
         ensures names { self.new.names ≡ self.old.names }
     {
         match fault {
-            FolderFault::Foreign | FolderFault::Failed => self.failed += 1,
+            FolderFault::Foreign | FolderFault::Failed(_) => self.failed += 1,
             FolderFault::Memory => (),
         }
     }
@@ -177,9 +178,9 @@ impl<'a, R: Files + RandomSource + AllocGlobal> OutputFolder for IntoFiles<'a, R
 
     fn finish(&mut self, file: UnfinishedFile<R::File>) -> Result<(), OutputFault> {
         let Some(begun) = self.begun.take() else {
-            abandon_file(self.rt, file);
+            let reason = abandon_file(self.rt, file);
             self.failed += 1;
-            return Err(OutputFault::Failed);
+            return Err(OutputFault::Failed(reason));
         };
         match finish_file(self.rt, file, begun) {
             Ok(placed) => {
@@ -193,9 +194,9 @@ impl<'a, R: Files + RandomSource + AllocGlobal> OutputFolder for IntoFiles<'a, R
         }
     }
 
-    fn abandon(&mut self, file: UnfinishedFile<R::File>) {
-        abandon_file(self.rt, file);
+    fn abandon(&mut self, file: UnfinishedFile<R::File>) -> Reason {
         self.begun = None;
         self.failed += 1;
+        abandon_file(self.rt, file)
     }
 }

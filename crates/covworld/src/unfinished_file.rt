@@ -8,7 +8,9 @@ ghost use Rattle.covworld.specs.OutputFiles.{path_in};
 
 use crate::begun::Begun;
 use crate::named_file::{Named, PlacedFile, StoredFile, Target, append_named, open_named};
+use crate::noting::Noting;
 use crate::output_folder::OutputFault;
+use crate::reason::Reason;
 use covstream::{Failed, FromWrite, Sink};
 use std::alloc::{AllocError, AllocGlobal};
 use std::fs::{Metadata, OpenFile, OpenOptions, Permissions};
@@ -21,18 +23,18 @@ use std::rt::Files;
 /// A file of std that isn't finished.
 #[derive(Drop)]
 pub struct UnfinishedFile<F> {
-    file: Named<FromWrite<F>>,
+    file: Named<FromWrite<Noting<F>>>,
     // The temporary name, by which std opened the file. `None` for a device or a pipe: bytes go straight into it.
     from: Option<String>,
     ghost opened: { ForSome from (λ f. file.name.bytes ≡ string_bytes f) },
 }
 
 impl<F: io::Write> Sink for UnfinishedFile<F> {
-    ghost written = { λ f. ⟦<Named<FromWrite<F>> as Sink>⟧.written f.file };
+    ghost written = { λ f. ⟦<Named<FromWrite<Noting<F>>> as Sink>⟧.written f.file };
 
-    ghost held = { λ f. ⟦<Named<FromWrite<F>> as Sink>⟧.held f.file };
+    ghost held = { λ f. ⟦<Named<FromWrite<Noting<F>>> as Sink>⟧.held f.file };
 
-    ghost failed_writes = { λ f. ⟦<Named<FromWrite<F>> as Sink>⟧.failed_writes f.file };
+    ghost failed_writes = { λ f. ⟦<Named<FromWrite<Noting<F>>> as Sink>⟧.failed_writes f.file };
 
     fn write(&mut self, bytes: &[u8]) -> Result<usize, Failed> {
         self.file.write(bytes)
@@ -40,6 +42,13 @@ impl<F: io::Write> Sink for UnfinishedFile<F> {
 
     fn flush(&mut self) -> Result<(), Failed> {
         self.file.flush()
+    }
+}
+
+impl<F: io::Write + Drop> UnfinishedFile<F> {
+    /// Closes the file. Returns why the last failed write to it failed.
+    pub(crate) fn into_reason(self) -> Reason {
+        self.file.into_reason()
     }
 }
 
@@ -53,17 +62,17 @@ pub(crate) fn begin_file<R: Files + RandomSource + AllocGlobal>(
     ensures named { IfOk result (λ r. begun_name r.1 ≡ name.now) }
 {
     if name.is_empty() {
-        return Err(OutputFault::Failed);
+        return Err(OutputFault::Failed(Reason::Missing));
     }
     if is_stream(name) {
         return begin_in_place(rt, name);
     }
     match rt.metadata(name) {
         Ok(old) if old.is_file() => begin_instead(rt, name, &old),
-        Ok(old) if old.is_dir() => Err(OutputFault::Failed),
+        Ok(old) if old.is_dir() => Err(OutputFault::Failed(Reason::Directory)),
         Ok(_) => begin_in_place(rt, name),
         Err(error) if error.kind() == ErrorKind::NotFound => begin_new(rt, name),
-        Err(_) => Err(OutputFault::Failed),
+        Err(error) => Err(OutputFault::Failed(Reason::of(&error))),
     }
 }
 
@@ -135,7 +144,7 @@ fn begin_new<R: Files + RandomSource + AllocGlobal>(
     ensures named { IfOk result (λ r. begun_name r.1 ≡ name.now) }
 {
     if rt.symlink_metadata(name).is_ok() {
-        return Err(OutputFault::Failed);
+        return Err(OutputFault::Failed(Reason::Missing));
     }
     let target = Target::of(rt.alloc(), name)?;
     let from = name_beside(rt, name, ".part")?;
@@ -239,7 +248,7 @@ pub(crate) fn finish_file<R: Files>(
         Begun::Beside(target) => target,
     };
     let Some(from) = from else {
-        return Err(OutputFault::Failed);
+        return Err(OutputFault::Failed(Reason::Other));
     };
     match place(rt, file, from.as_str(), target) {
         Ok(placed) => Ok(placed),
@@ -253,7 +262,7 @@ pub(crate) fn finish_file<R: Files>(
 /// Waits until all bytes of `file` are on the disk, and then gives the file, whose name is `from`, the path of `target`.
 fn place<R: Files>(
     rt: &R,
-    file: Named<FromWrite<R::File>>,
+    file: Named<FromWrite<Noting<R::File>>>,
     from: &str,
     target: Target,
 ) -> io::Result<PlacedFile>
@@ -273,10 +282,10 @@ pub(crate) fn store_inside<F: io::Write + OpenFile + Drop>(
 {
     let UnfinishedFile { file, from } = file;
     let Some(from) = from else {
-        return Err(OutputFault::Failed);
+        return Err(OutputFault::Failed(Reason::Other));
     };
     if !is_path_in(folder, name, from.as_str()) {
-        return Err(OutputFault::Failed);
+        return Err(OutputFault::Failed(Reason::Other));
     }
     Ok(file.store()?)
 }
@@ -294,14 +303,15 @@ fn is_path_in(folder: &str, name: &str, path: &str) -> bool
     *slash == b'/' && last == name.as_bytes()
 }
 
-/// Removes `file`, which isn't finished.
-pub(crate) fn abandon_file<R: Files>(rt: &R, file: UnfinishedFile<R::File>) {
+/// Removes `file`, which isn't finished. Returns why the last failed write to it failed.
+pub(crate) fn abandon_file<R: Files>(rt: &R, file: UnfinishedFile<R::File>) -> Reason {
     let UnfinishedFile { file, from } = file;
-    drop(file);
+    let reason = file.into_reason();
     if let Some(from) = from {
         // The run already ends with the error of the write.
         let _ = rt.remove_file(from.as_str());
     }
+    reason
 }
 
 impl From<AllocError> for OutputFault {
@@ -325,7 +335,7 @@ impl From<io::Error> for OutputFault {
     fn from(error: io::Error) -> OutputFault {
         match error.kind() {
             ErrorKind::OutOfMemory => OutputFault::Memory,
-            _ => OutputFault::Failed,
+            _ => OutputFault::Failed(Reason::of(&error)),
         }
     }
 }

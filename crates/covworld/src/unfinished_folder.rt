@@ -4,17 +4,19 @@ ghost use Rattle.std.specs.Prelude.{◌≡◌, ◌<◌, ◌^◌, ◌++◌, ◌�
 ghost use Rattle.std.specs.String.{string_bytes};
 ghost use Rattle.covworld.specs.OutputFiles.{CountsFault, list_name};
 
+use crate::file_fault::FileFault;
 use crate::files::file_text;
 use crate::folder::FromFiles;
 use crate::folder_writer::FolderFault;
 use crate::named_file::{CreatedFolder, PlacedFolder, Target};
 use crate::output_folder::{OutputFault, OutputFolder};
+use crate::reason::Reason;
 use crate::unfinished_file::{
     UnfinishedFile, abandon_file, begin_inside, keep_owner, name_beside, put_path, store_inside,
 };
 use covdata::{Bytes, Memory};
 use covsession::put_bytes;
-use covstream::{BlockFault, Sink};
+use covstream::Sink;
 use std::alloc::{AllocError, AllocGlobal};
 use std::collections::BTreeSet;
 use std::fs::{Permissions, read_dir};
@@ -64,7 +66,7 @@ impl<'a, R> UnfinishedFolder<'a, R> {
         ensures folder { self.new.folder ≡ self.old.folder }
     {
         match fault {
-            OutputFault::Failed => self.failed += 1,
+            OutputFault::Failed(_) => self.failed += 1,
             OutputFault::Memory => (),
         }
     }
@@ -135,9 +137,9 @@ impl<'a, R: Files + RandomSource + AllocGlobal> OutputFolder for UnfinishedFolde
 
     fn finish(&mut self, file: UnfinishedFile<R::File>) -> Result<(), OutputFault> {
         let Some(name) = self.begun.take() else {
-            abandon_file(self.rt, file);
+            let reason = abandon_file(self.rt, file);
             self.failed += 1;
-            return Err(OutputFault::Failed);
+            return Err(OutputFault::Failed(reason));
         };
         match self.store(file, name.as_str()) {
             Ok(()) => Ok(()),
@@ -148,10 +150,10 @@ impl<'a, R: Files + RandomSource + AllocGlobal> OutputFolder for UnfinishedFolde
         }
     }
 
-    fn abandon(&mut self, file: UnfinishedFile<R::File>) {
-        abandon_file(self.rt, file);
+    fn abandon(&mut self, file: UnfinishedFile<R::File>) -> Reason {
         self.begun = None;
         self.failed += 1;
+        abandon_file(self.rt, file)
     }
 }
 
@@ -169,9 +171,9 @@ pub(crate) fn begin_folder<'a, R: Files + RandomSource + AllocGlobal>(
     let older = old_files(rt, target.path())?;
     let from = name_beside(rt, target.path(), ".part")?;
     let folder = CreatedFolder::create(rt, from.as_str())?;
-    if keep_rights(rt, from.as_str(), target.path()).is_err() {
+    if let Err(error) = keep_rights(rt, from.as_str(), target.path()) {
         let _ = rt.remove_dir(from.as_str());
-        return Err(FolderFault::Failed);
+        return Err(FolderFault::Failed(Reason::of(&error)));
     }
     let unfinished = UnfinishedFolder {
         rt,
@@ -201,10 +203,11 @@ fn target_of<R: Files + AllocGlobal>(rt: &R, name: &str) -> Result<Target, Folde
 {
     match rt.metadata(name) {
         Ok(old) if old.is_dir() => target_of_old(rt, name),
+        Ok(_) => Err(FolderFault::Failed(Reason::NoDirectory)),
         Err(error) if error.kind() == ErrorKind::NotFound && is_free(rt, name) => {
             Ok(Target::trimmed(rt.alloc(), name)?)
         }
-        Ok(_) | Err(_) => Err(FolderFault::Failed),
+        Err(error) => Err(FolderFault::Failed(Reason::of(&error))),
     }
 }
 
@@ -264,8 +267,8 @@ fn old_listing<R: Files + AllocGlobal>(rt: &R, path: &str) -> Result<Bytes, Fold
     let name = path_of_file(rt, path, LIST_NAME)?;
     match file_text(&FromFiles::new(rt), rt.alloc(), name.as_str()) {
         Ok(listing) => Ok(listing),
-        Err(BlockFault::Unreadable) => Err(FolderFault::Foreign),
-        Err(BlockFault::Memory) => Err(FolderFault::Memory),
+        Err(FileFault::Unreadable(_)) => Err(FolderFault::Foreign),
+        Err(FileFault::Memory) => Err(FolderFault::Memory),
     }
 }
 
@@ -324,7 +327,7 @@ fn write_list<R: Files + RandomSource + AllocGlobal>(
 {
     let mut list = begin_inside(folder.rt, folder.from.as_str(), LIST_NAME)?;
     if put_bytes(folder.listing.get(), &mut list).is_err() {
-        return Err(OutputFault::Failed);
+        return Err(OutputFault::Failed(list.into_reason()));
     }
     folder.store(list, LIST_NAME)
 }
@@ -424,7 +427,7 @@ impl From<OutputFault> for FolderFault {
 
     fn from(fault: OutputFault) -> FolderFault {
         match fault {
-            OutputFault::Failed => FolderFault::Failed,
+            OutputFault::Failed(reason) => FolderFault::Failed(reason),
             OutputFault::Memory => FolderFault::Memory,
         }
     }
@@ -453,7 +456,7 @@ impl From<io::Error> for FolderFault {
         match error.kind() {
             ErrorKind::OutOfMemory => FolderFault::Memory,
             ErrorKind::InvalidFilename => FolderFault::Foreign,
-            _ => FolderFault::Failed,
+            _ => FolderFault::Failed(Reason::of(&error)),
         }
     }
 }

@@ -72,9 +72,6 @@ fn write_by<P: OutputFolder, T: PrintedText>(
     let mut file = files.begin(name)?;
     match print_text(text, block, &mut file) {
         Ok(()) => files.finish(file),
-        Err(_) => {
-            files.abandon(file);
-            Err(OutputFault::Failed)
-        }
+        Err(_) => Err(OutputFault::Failed(files.abandon(file))),
     }
 }

@@ -2,12 +2,13 @@
 //! they are read.
 
 ghost use Rattle.std.specs.Prelude.{◌≡◌, ◌≢◌, None, Some};
+ghost use Rattle.covworld.specs.declared.reason.Reason.TheVariants.{Missing};
 
 use super::outputs::NoFiles;
 use super::{Told, check_text, kept_sinks, run, words_of};
 use covrun::{Folder, World};
 use covstream::{Failed, FromRead, Source};
-use covworld::{FileId, Noted, Opened};
+use covworld::{FileId, Noted, Opened, Reason};
 use std::process::Abort;
 use std::sync::Wait;
 use std::test::*;
@@ -54,7 +55,7 @@ pub(super) struct OneFile<'a> {
 impl<'a> Folder for OneFile<'a> {
     ghost holds = { λ s _. Some s.text.now };
 
-    ghost may_refuse = { λ s name. name ≢ s.name.now };
+    ghost may_refuse = { λ s name reason. (name ≢ s.name.now) × (reason ≡ Missing) };
 
     ghost may_open = { λ _ _ _. Unit {0} };
 
@@ -62,9 +63,9 @@ impl<'a> Folder for OneFile<'a> {
 
     type File = FromRead<&'a [u8]>;
 
-    fn open(&self, name: &str) -> Result<Opened<FromRead<&'a [u8]>>, Failed> {
+    fn open(&self, name: &str) -> Result<Opened<FromRead<&'a [u8]>>, Reason> {
         if name != self.name {
-            return Err(Failed);
+            return Err(Reason::Missing);
         }
         Ok(Opened {
             source: FromRead::new(self.text),
@@ -140,7 +141,7 @@ struct TornFiles {
 impl Folder for TornFiles {
     ghost holds = { λ _ _. None };
 
-    ghost may_refuse = { λ _ _. ⊥ };
+    ghost may_refuse = { λ _ _ _. ⊥ };
 
     ghost may_open = { λ _ _ file. file.failed ≡ 0 };
 
@@ -148,7 +149,7 @@ impl Folder for TornFiles {
 
     type File = Torn;
 
-    fn open(&self, name: &str) -> Result<Opened<Torn>, Failed> {
+    fn open(&self, name: &str) -> Result<Opened<Torn>, Reason> {
         Ok(Opened {
             source: Torn {
                 good: self.good,

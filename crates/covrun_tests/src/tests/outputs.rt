@@ -7,7 +7,7 @@ use super::folders::OneFile;
 use super::{Told, check_text, kept_sinks, run, words_of};
 use covrun::{FolderWriter, OutputFolder, World};
 use covstream::{Failed, FromRead, FromWrite, Sink};
-use covworld::{FolderFault, OutputFault};
+use covworld::{FolderFault, OutputFault, Reason};
 use std::alloc::Global;
 use std::process::Abort;
 use std::sync::Wait;
@@ -35,16 +35,17 @@ impl OutputFolder for NoFiles {
 
     fn begin(&mut self, _name: &str) -> Result<FromWrite<Vec<u8>>, OutputFault> {
         self.failed += 1;
-        Err(OutputFault::Failed)
+        Err(OutputFault::Failed(Reason::Other))
     }
 
     fn finish(&mut self, _file: FromWrite<Vec<u8>>) -> Result<(), OutputFault> {
         self.failed += 1;
-        Err(OutputFault::Failed)
+        Err(OutputFault::Failed(Reason::Other))
     }
 
-    fn abandon(&mut self, _file: FromWrite<Vec<u8>>) {
+    fn abandon(&mut self, _file: FromWrite<Vec<u8>>) -> Reason {
         self.failed += 1;
+        Reason::Other
     }
 }
 
@@ -57,13 +58,13 @@ impl FolderWriter for NoFiles {
 
     fn begin_folder(&mut self, _name: &str) -> Result<(NoFiles, ()), FolderFault> {
         self.failed += 1;
-        Err(FolderFault::Failed)
+        Err(FolderFault::Failed(Reason::Other))
     }
 
     fn finish_folder(&mut self, folder: NoFiles, _place: ()) -> Result<(), OutputFault> {
         drop(folder);
         self.failed += 1;
-        Err(OutputFault::Failed)
+        Err(OutputFault::Failed(Reason::Other))
     }
 
     fn abandon_folder(&mut self, folder: NoFiles) {
@@ -115,7 +116,7 @@ impl OutputFolder for Shelf {
         let begun = self.begun.take();
         if self.room == 0 {
             self.failed += 1;
-            return Err(OutputFault::Failed);
+            return Err(OutputFault::Failed(Reason::Full));
         }
         self.room -= 1;
         let Some(name) = begun else {
@@ -128,9 +129,10 @@ impl OutputFolder for Shelf {
         }
     }
 
-    fn abandon(&mut self, _file: FromWrite<Vec<u8>>) {
+    fn abandon(&mut self, _file: FromWrite<Vec<u8>>) -> Reason {
         self.begun = None;
         self.failed += 1;
+        Reason::Other
     }
 }
 
@@ -143,13 +145,13 @@ impl FolderWriter for Shelf {
 
     fn begin_folder(&mut self, _name: &str) -> Result<(NoFiles, ()), FolderFault> {
         self.failed += 1;
-        Err(FolderFault::Failed)
+        Err(FolderFault::Failed(Reason::Other))
     }
 
     fn finish_folder(&mut self, folder: NoFiles, _place: ()) -> Result<(), OutputFault> {
         drop(folder);
         self.failed += 1;
-        Err(OutputFault::Failed)
+        Err(OutputFault::Failed(Reason::Other))
     }
 
     fn abandon_folder(&mut self, folder: NoFiles) {
@@ -285,7 +287,7 @@ fn a_file_cannot_be_written(rt: HostRuntime) -> Result<(), Fail> {
 fn a_combined_file_cannot_be_written(rt: HostRuntime) -> Result<(), Fail> {
     let asked = "covcollect combine --exclude x --fail-under-lines 60 -o full.info a.info";
     let (status, faults, full) = call_onto(&rt, asked, shelf_of(rt.alloc(), 0))?;
-    let told = "warning: --exclude x: matches no source file\nfull.info: can't be written\n";
+    let told = "warning: --exclude x: matches no source file\nfull.info: No space left on device\n";
     check_text(&rt, asked, faults.as_slice(), told)?;
     assert_eq!(rt; status, 1);
     assert!(rt; full.files.is_empty());
@@ -355,13 +357,14 @@ impl OutputFolder for Shorts {
     fn finish(&mut self, _file: Short) -> Result<(), OutputFault> {
         self.begun = None;
         self.failed += 1;
-        Err(OutputFault::Failed)
+        Err(OutputFault::Failed(Reason::Other))
     }
 
-    fn abandon(&mut self, _file: Short) {
+    fn abandon(&mut self, _file: Short) -> Reason {
         self.begun = None;
         self.abandoned = self.abandoned.saturating_add(1);
         self.failed += 1;
+        Reason::Other
     }
 }
 
@@ -374,13 +377,13 @@ impl FolderWriter for Shorts {
 
     fn begin_folder(&mut self, _name: &str) -> Result<(NoFiles, ()), FolderFault> {
         self.failed += 1;
-        Err(FolderFault::Failed)
+        Err(FolderFault::Failed(Reason::Other))
     }
 
     fn finish_folder(&mut self, folder: NoFiles, _place: ()) -> Result<(), OutputFault> {
         drop(folder);
         self.failed += 1;
-        Err(OutputFault::Failed)
+        Err(OutputFault::Failed(Reason::Other))
     }
 
     fn abandon_folder(&mut self, folder: NoFiles) {
