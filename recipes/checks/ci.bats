@@ -77,7 +77,7 @@ load projects
     printf 'SF:/x.c\nDA:12,1,abd\nend_of_record\n' >jobs/b.info
     call ci/ci.sh --no-html jobs/a.info jobs/b.info
     ended 4 'ci.sh: status 4 for checksums that clash'
-    holds 'ci.sh: the clash is told' grep -qxE '/x\.c:12: checksum ab[cd], but ab[cd] in an earlier record: two versions of the source\?' "$work/err"
+    holds 'ci.sh: the clash is told' grep -qxE 'jobs/[ab]\.info: checksum of /x\.c:12 is ab[cd], but an earlier record has ab[cd]: two versions of the source\?' "$work/err"
     ln -s other.info jobs/same.info
     call ci/ci.sh --no-html jobs/other.info jobs/same.info
     ended 2 'ci.sh: a tracefile of two names'

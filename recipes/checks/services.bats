@@ -125,7 +125,7 @@ covcollect-combine-file	none.info	-	No such file or directory
 covcollect-combine-file	page.info	-	no record (begins with "<html>")
 covcollect-combine-file	empty.info	-	empty
 covcollect-combine-file	held.gz	-	packed by gzip (unpack it first, or name it as <(zcat 'held.gz'))
-covcollect-combine-line	/src 2/a: b.c	12	checksum mNhTZqCv3dQxJmVtQXnU7w, but lZ8bZ6bGGr4EkvEwDDpwWQ in an earlier record: two versions of the source?
+covcollect-combine-clash	/src 2/a: b.c	12	given.info: checksum of /src 2/a: b.c:12 is mNhTZqCv3dQxJmVtQXnU7w, but an earlier record has lZ8bZ6bGGr4EkvEwDDpwWQ: two versions of the source?
 covcollect-combine-call	-	-	expected 9 files, but read 3
 covcollect-combine-call	-	-	--path /x=/y: applies to no source file
 covcollect-combine-call	-	-	--exclude /usr/*: matches no source file

@@ -1,6 +1,6 @@
 -- How a call ends once its files are collected.
-use Rattle.std.specs.List.{count_by, flat_map, list_all, list_any}
-use Rattle.std.specs.Prelude.{◌==◌, ◌&&◌, ◌++◌, ℕ, suc, Bool, true, false, not, min, fold, List, [], ◌∷◌, codes, get_or, slice_get, unwrap_or, option_map, if◌then◌else◌, Option, None, Some}
+use Rattle.std.specs.List.{count_by, flat_map, list_all, list_any, sum_by}
+use Rattle.std.specs.Prelude.{◌==◌, ◌&&◌, ◌++◌, ◌%◌, ℕ, suc, Bool, true, false, not, min, fold, filter, map, length, take, drop, List, [], ◌∷◌, codes, get_or, slice_get, unwrap_or, option_map, if◌then◌else◌, Option, None, Some}
 use Rattle.covbook.specs.Op.{AnswerData, AcceptedAnswer, ClashAnswer, DroppedAnswer, RenamedAnswer, NoSuchTestAnswer, TextAnswer, EntryData}
 use Rattle.covbook.specs.Step.{ops_in, table_of}
 use Rattle.covcommand.specs.declared.asked.Overview.{Overview}
@@ -18,6 +18,7 @@ use Rattle.covpaths.specs.Paths.{RuleData}
 use Rattle.covreport.specs.Choice.{ChoiceData, AllFiles, Extracted, Removed, Filtered}
 use Rattle.covreport.specs.Report.{report_text}
 use Rattle.covreport.specs.Summary.{summary_of}
+use Rattle.covtable.specs.Clash.{ClashData}
 use Rattle.covtable.specs.Content.{SectionData, content_at}
 use Rattle.covtable.specs.Files.{FileTotalsData, files_with_totals}
 use Rattle.covworkers.specs.declared.refused.RefusedInput.{RefusedInput}
@@ -25,6 +26,7 @@ use Rattle.covcombine.specs.Messages.{clash_line, expected_line, fault_line, mis
 use Rattle.covcombine.specs.Options.{CombineData}
 use Rattle.covcombine.specs.declared.call_fault.CallOption.TheVariants.{Include, Exclude}
 use Rattle.covcombine.specs.declared.call_fault.CallOption.{CallOption}
+use Rattle.covcombine.specs.declared.note.FileEnd.{FileEnd}
 use Rattle.covcombine.specs.declared.note.Note.{Note}
 use Rattle.covcombine.specs.declared.note.Note.TheVariants.{Unreadable, Strange, NoRecord, Faulty, Merged}
 
@@ -74,20 +76,43 @@ refusal_of Lenient name (Merged misfits used) = []
 refusal_of Strict name (Merged misfits used) = misfits_told [] Strict name misfits
 
 -- such a line about each file, in the files' order
-abbrev pub lines_by : (List ℕ → Note → List ℕ) → (files : List (List ℕ)) → List (RefusedInput Note) → List ℕ
-lines_by line files notes = flat_map (λ (n : RefusedInput Note). line (unwrap_or (slice_get files n.index) []) n.fault) notes
+abbrev pub lines_by : (List ℕ → Note → List ℕ) → (files : List (List ℕ)) → List (RefusedInput FileEnd) → List ℕ
+lines_by line files notes = flat_map (λ (n : RefusedInput FileEnd). line (unwrap_or (slice_get files n.index) []) n.fault.note) notes
 
-abbrev pub clash_of_answer : AnswerData → List ℕ
-clash_of_answer (AcceptedAnswer number items odd) = []
-clash_of_answer (ClashAnswer clash) = clash_line clash
-clash_of_answer (DroppedAnswer sections) = []
-clash_of_answer (RenamedAnswer sections) = []
-clash_of_answer NoSuchTestAnswer = []
-clash_of_answer (TextAnswer text) = []
+-- ---- clashes
 
--- the lines about clashes, in the order of the history
-abbrev pub clash_lines : List EntryData → List ℕ
-clash_lines entries = flat_map (λ (e : EntryData). clash_of_answer e.answer) entries
+abbrev pub clash_said : AnswerData → List ClashData
+clash_said (AcceptedAnswer number items odd) = []
+clash_said (ClashAnswer clash) = clash ∷ []
+clash_said (DroppedAnswer sections) = []
+clash_said (RenamedAnswer sections) = []
+clash_said NoSuchTestAnswer = []
+clash_said (TextAnswer text) = []
+
+-- the answers to the calls of a job, in their order
+abbrev pub answers_of_job : (job : ℕ) → List EntryData → List AnswerData
+answers_of_job job entries = map (λ (e : EntryData). e.answer) (filter (λ (e : EntryData). e.job == job) entries)
+
+-- how many pieces of these files a job read: it reads the file at its own number, and every `jobs`-th file after that
+abbrev pub pieces_read : (jobs job : ℕ) → List (RefusedInput FileEnd) → ℕ
+pieces_read jobs job notes = sum_by (λ (n : RefusedInput FileEnd). if n.index % jobs == job then n.fault.pieces else 0) notes
+
+-- the answers to the pieces of a file: those to its job, behind those to the files that the job read before
+abbrev pub answers_to : (jobs : ℕ) → List EntryData → (before : List (RefusedInput FileEnd)) → RefusedInput FileEnd → List AnswerData
+answers_to jobs entries before n =
+    take n.fault.pieces (drop (pieces_read jobs (n.index % jobs) before) (answers_of_job (n.index % jobs) entries))
+
+-- the line about the clashes of a file, if it has some: the first one, and how many more pieces of the file clash
+abbrev pub clashes_told : (name : List ℕ) → List ClashData → List ℕ
+clashes_told name [] = []
+clashes_told name (clash ∷ others) = clash_line name clash (length others)
+
+-- such a line about each file, in the files' order, behind the files `before`
+abbrev pub clash_lines : (jobs : ℕ) → (files : List (List ℕ)) → List EntryData → (before : List (RefusedInput FileEnd)) → List (RefusedInput FileEnd) → List ℕ
+clash_lines jobs files entries before [] = []
+clash_lines jobs files entries before (n ∷ notes) =
+    clashes_told (unwrap_or (slice_get files n.index) []) (flat_map clash_said (answers_to jobs entries before n))
+    ++ clash_lines jobs files entries (before ++ n ∷ []) notes
 
 -- ---- how many files were read
 
@@ -98,8 +123,8 @@ is_merged (NoRecord begins sections) = false
 is_merged (Faulty fault) = false
 is_merged (Merged misfits used) = true
 
-abbrev pub merged_in : List (RefusedInput Note) → ℕ
-merged_in notes = count_by (λ (n : RefusedInput Note). is_merged n.fault) notes
+abbrev pub merged_in : List (RefusedInput FileEnd) → ℕ
+merged_in notes = count_by (λ (n : RefusedInput FileEnd). is_merged n.fault.note) notes
 
 abbrev pub unexpected : (expected : Option ℕ) → (read : ℕ) → List ℕ
 unexpected None read = []
@@ -115,11 +140,11 @@ has_used (NoRecord begins sections) place = false
 has_used (Faulty fault) place = false
 has_used (Merged misfits used) place = get_or used place false
 
-abbrev pub is_used : List (RefusedInput Note) → (place : ℕ) → Bool
-is_used notes place = list_any (λ (n : RefusedInput Note). has_used n.fault place) notes
+abbrev pub is_used : List (RefusedInput FileEnd) → (place : ℕ) → Bool
+is_used notes place = list_any (λ (n : RefusedInput FileEnd). has_used n.fault.note place) notes
 
 -- a line about each of these rules that was applied to no source file. They have places from `place` on
-abbrev pub unused_from : (front : List ℕ) → List (RefusedInput Note) → (place : ℕ) → List RuleData → List ℕ
+abbrev pub unused_from : (front : List ℕ) → List (RefusedInput FileEnd) → (place : ℕ) → List RuleData → List ℕ
 unused_from front notes place [] = []
 unused_from front notes place (rule ∷ rules) =
     (if is_used notes place then [] else unused_line front rule) ++ unused_from front notes (suc place) rules
@@ -158,37 +183,38 @@ is_clash NoSuchTestAnswer = false
 is_clash (TextAnswer text) = false
 
 -- each file was read, and all of it was added up
-abbrev pub is_whole : List EntryData → List (RefusedInput Note) → Bool
+abbrev pub is_whole : List EntryData → List (RefusedInput FileEnd) → Bool
 is_whole entries notes =
-    list_all (λ (n : RefusedInput Note). is_merged n.fault) notes && list_all (λ (e : EntryData). not (is_clash e.answer)) entries
+    list_all (λ (n : RefusedInput FileEnd). is_merged n.fault.note) notes && list_all (λ (e : EntryData). not (is_clash e.answer)) entries
 
 -- what is doubtful of the paths, and then of the patterns
-abbrev pub doubts : (front : List ℕ) → CombineData → List EntryData → List (RefusedInput Note) → List ℕ
+abbrev pub doubts : (front : List ℕ) → CombineData → List EntryData → List (RefusedInput FileEnd) → List ℕ
 doubts front work entries notes =
     unused_from front notes 0 work.new.rules ++ pattern_lines front work.choice (files_with_totals (content_at (table_of (ops_in entries))))
 
 -- paths and patterns are judged by the whole alone
-abbrev pub judged_by : (front : List ℕ) → CombineData → List EntryData → List (RefusedInput Note) → List ℕ
+abbrev pub judged_by : (front : List ℕ) → CombineData → List EntryData → List (RefusedInput FileEnd) → List ℕ
 judged_by front work entries notes = if is_whole entries notes then doubts front work entries notes else []
 
-abbrev pub judged_warnings : Strictness → CombineData → List EntryData → List (RefusedInput Note) → List ℕ
+abbrev pub judged_warnings : Strictness → CombineData → List EntryData → List (RefusedInput FileEnd) → List ℕ
 judged_warnings Lenient work entries notes = judged_by (codes "warning: ") work entries notes
 judged_warnings Strict work entries notes = []
 
-abbrev pub judged_refusals : Strictness → CombineData → List EntryData → List (RefusedInput Note) → List ℕ
+abbrev pub judged_refusals : Strictness → CombineData → List EntryData → List (RefusedInput FileEnd) → List ℕ
 judged_refusals Lenient work entries notes = []
 judged_refusals Strict work entries notes = judged_by [] work entries notes
 
 -- ---- the end
 
-abbrev pub warnings : CombineData → List EntryData → List (RefusedInput Note) → List ℕ
+abbrev pub warnings : CombineData → List EntryData → List (RefusedInput FileEnd) → List ℕ
 warnings work entries notes = lines_by (warning_of work.strictness) work.files notes ++ judged_warnings work.strictness work entries notes
 
--- why the call fails: files in their order, clashes, how many files were read, and paths and patterns
-abbrev pub failures : CombineData → List EntryData → List (RefusedInput Note) → List ℕ
-failures work entries notes =
+-- why the call fails: files in their order, clashes, how many files were read, and paths and patterns. `jobs`: how many jobs read the
+-- files
+abbrev pub failures : CombineData → (jobs : ℕ) → List EntryData → List (RefusedInput FileEnd) → List ℕ
+failures work jobs entries notes =
     lines_by (refusal_of work.strictness) work.files notes
-    ++ (clash_lines entries ++ (unexpected work.expected (merged_in notes) ++ judged_refusals work.strictness work entries notes))
+    ++ (clash_lines jobs work.files entries [] notes ++ (unexpected work.expected (merged_in notes) ++ judged_refusals work.strictness work entries notes))
 
 -- the status of a call that fails for a file with this note
 abbrev pub note_status : Note → ℕ
@@ -202,10 +228,10 @@ abbrev pub answer_status : AnswerData → ℕ
 answer_status answer = if is_clash answer then 4 else 5
 
 -- the worst status, which is the least
-abbrev pub failure_status : List EntryData → List (RefusedInput Note) → ℕ
+abbrev pub failure_status : List EntryData → List (RefusedInput FileEnd) → ℕ
 failure_status entries notes =
     fold (λ status (e : EntryData). min status (answer_status e.answer))
-    (fold (λ status (n : RefusedInput Note). min status (note_status n.fault)) 5 notes) entries
+    (fold (λ status (n : RefusedInput FileEnd). min status (note_status n.fault.note)) 5 notes) entries
 
 -- the summary or the list of the chosen source files
 abbrev pub overview_text : Overview → TotalsForm → ChoiceData → List SectionData → List ℕ
@@ -240,8 +266,8 @@ abbrev pub fails_for : (failures warnings : List ℕ) → (status : ℕ) → (ot
 fails_for [] warnings status otherwise = otherwise
 fails_for (b ∷ bs) warnings status otherwise = Fails status (warnings ++ (b ∷ bs))
 
--- how a call ends that has collected this history and these notes
-abbrev pub end_of : CombineData → List EntryData → List (RefusedInput Note) → EndingData
-end_of work entries notes =
-    fails_for (failures work entries notes) (warnings work entries notes) (failure_status entries notes)
+-- how a call ends whose jobs have collected this history and these notes
+abbrev pub end_of : CombineData → (jobs : ℕ) → List EntryData → List (RefusedInput FileEnd) → EndingData
+end_of work jobs entries notes =
+    fails_for (failures work jobs entries notes) (warnings work entries notes) (failure_status entries notes)
     (Gives (given (warnings work entries notes) work (content_at (table_of (ops_in entries)))))

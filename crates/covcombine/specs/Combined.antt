@@ -27,11 +27,11 @@ use Rattle.covworld.specs.declared.reason.Reason.TheVariants.{Other}
 use Rattle.covcombine.specs.Combine.{EndingData, Fails, Gives, PagesData, TextsData, end_of}
 use Rattle.covcombine.specs.Messages.{call_fault_line, cut_line, expected_line, pages_lines, unwritten_line}
 use Rattle.covcombine.specs.FileNames.{AreNamesOf, InFile, InInput, IsListRead, ListPlace, cut_at, end_byte, name_of_list, place_of}
-use Rattle.covcombine.specs.Notes.{IsOfFile}
+use Rattle.covcombine.specs.Notes.{IsEndOfFile}
 use Rattle.covcombine.specs.Options.{AreJobsFor, CombineData, IsCallFault, IsWorkOf}
 use Rattle.covcombine.specs.declared.call_fault.CallFault.{CallFault}
 use Rattle.covcombine.specs.declared.call_fault.CallFault.TheVariants.{NoName, UnreadList, LongList, NotText}
-use Rattle.covcombine.specs.declared.note.Note.{Note}
+use Rattle.covcombine.specs.declared.note.FileEnd.{FileEnd}
 
 -- ---- how files are collected
 
@@ -52,9 +52,9 @@ of_collecting collects.NotLast = Fails 3 (said (codes "gather"))
 abbrev pub Ends : FolderData → (jobs : ℕ) → CombineData → EndingData → Type 0
 Ends folder jobs work ending =
     (ending ≡ out_of_memory)
-    ⊎ (((fault : CollectFault) × (fault ≡ collects.BadJobs → AreJobs jobs → ⊥) × MayCome (FillHistory (IsOfFile folder work.new work.strictness) work.files) fault × (ending ≡ of_collecting fault))
-    ⊎ ((entries : List EntryData) × (notes : List (RefusedInput Note))
-    × IsCollectedSoFar (IsOfFile folder work.new work.strictness) work.files jobs entries notes × (ending ≡ end_of work entries notes)))
+    ⊎ (((fault : CollectFault) × (fault ≡ collects.BadJobs → AreJobs jobs → ⊥) × MayCome (FillHistory (IsEndOfFile folder work.new work.strictness) work.files) fault × (ending ≡ of_collecting fault))
+    ⊎ ((entries : List EntryData) × (notes : List (RefusedInput FileEnd))
+    × IsCollectedSoFar (IsEndOfFile folder work.new work.strictness) work.files jobs entries notes × (ending ≡ end_of work jobs entries notes)))
 
 -- ---- where texts and lines go
 

@@ -13,4 +13,5 @@ pub mod Combine
 pub mod Combined
 pub mod View
 pub mod Steps
+pub mod ClashSteps
 pub mod ListSteps

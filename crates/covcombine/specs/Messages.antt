@@ -145,10 +145,19 @@ none_left_line front = said (front ++ codes "--include and --exclude leave no so
 
 -- ---- others
 
-abbrev pub clash_line : ClashData → List ℕ
-clash_line clash =
-    told_at clash.file clash.line
-    (codes "checksum " ++ (shown_name clash.given ++ (codes ", but " ++ (shown_name clash.held ++ codes " in an earlier record: two versions of the source?"))))
+abbrev pub more_clashes : ℕ → List ℕ
+more_clashes zero = []
+more_clashes (suc more) = codes " (and " ++ (counted (suc more) (codes "more piece of the file clashes") (codes "more pieces of the file clash") ++ codes ")")
+
+abbrev pub checksum_words : (given held : List ℕ) → List ℕ
+checksum_words given held =
+    codes " is " ++ (shown_name given ++ (codes ", but an earlier record has " ++ (shown_name held ++ codes ": two versions of the source?")))
+
+-- the tracefile of this name clashes, and so do more of its pieces
+abbrev pub clash_line : (name : List ℕ) → ClashData → (more : ℕ) → List ℕ
+clash_line name clash more =
+    told name
+    (codes "checksum of " ++ (shown_name clash.file ++ (codes ":" ++ (decimal clash.line ++ (checksum_words clash.given clash.held ++ more_clashes more)))))
 
 abbrev pub expected_line : (expected read : ℕ) → List ℕ
 expected_line expected read = said (codes "expected " ++ (counted expected (codes "file") (codes "files") ++ (codes ", but read " ++ decimal read)))

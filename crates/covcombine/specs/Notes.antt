@@ -1,6 +1,6 @@
 -- What comes of a file: the submissions that are read of it, and a note.
 use Rattle.std.specs.List.{flat_map, sum_by}
-use Rattle.std.specs.Prelude.{◌≡◌, ◌⊎◌, ◌+◌, ◌==◌, ℕ, Bool, List, [], length, map, if◌then◌else◌, Option, None, Some, Result, Ok, Err}
+use Rattle.std.specs.Prelude.{◌≡◌, ◌⊎◌, ◌+◌, ◌==◌, ℕ, Bool, List, [], length, map, option_map, if◌then◌else◌, Option, None, Some, Result, Ok, Err}
 use Rattle.covcheck.specs.Skipped.{IsSkippedLcov2}
 use Rattle.covcheck.specs.TextSummary.{AreLinesThat}
 use Rattle.covcommand.specs.declared.asked.Strictness.{Strictness}
@@ -17,6 +17,7 @@ use Rattle.covworld.specs.Folder.{FolderData, IsTextAtMost}
 use Rattle.covworld.specs.declared.reason.Reason.{Reason}
 use Rattle.covcombine.specs.Strangers.{first_bytes, first_line, strange}
 use Rattle.covcombine.specs.declared.note.Counts.{Counts}
+use Rattle.covcombine.specs.declared.note.FileEnd.{FileEnd}
 use Rattle.covcombine.specs.declared.note.Note.{Note}
 use Rattle.covcombine.specs.declared.note.Note.TheVariants.{Unreadable, Strange, NoRecord, Faulty, Merged}
 use Rattle.covcombine.specs.declared.stranger.Stranger.{Stranger}
@@ -68,3 +69,13 @@ abbrev pub IsOfFile : FolderData → NamesData → Strictness → (name : List �
 IsOfFile folder new strictness name outcome =
     ((reason : Reason) × (outcome.fault ≡ Some (Unreadable reason)) × folder.MayFailFor name reason)
     ⊎ ((first : List ℕ) × IsTextAtMost first_bytes (folder.holds name) first × IsUnlessStrange (strange first) new strictness (folder.holds name) first outcome)
+
+-- the same with the number of the file's pieces beside its note. `before`: how many pieces were read before
+abbrev pub ended_after : (before : ℕ) → OutcomeData Note → OutcomeData FileEnd
+ended_after before outcome =
+    record { read = outcome.read; fault = option_map (λ note. record { pieces = told_number (before + length outcome.read); note = note }) outcome.fault }
+
+-- what comes of the file of this name, and how many pieces it has
+abbrev pub IsEndOfFile : FolderData → NamesData → Strictness → (name : List ℕ) → OutcomeData FileEnd → Type 0
+IsEndOfFile folder new strictness name outcome =
+    (given : OutcomeData Note) × IsOfFile folder new strictness name given × (outcome ≡ ended_after 0 given)

@@ -41,13 +41,14 @@ use Rattle.covworld.specs.World.{WorldData}
 use Rattle.covworld.specs.declared.reason.Reason.TheVariants as reasons
 use Rattle.covcombine.specs.FileNames.{AreApart, AreOneFile}
 use Rattle.covcombine.specs.Messages.{pages_lines}
-use Rattle.covcombine.specs.Notes.{IsOfFile, note_of}
+use Rattle.covcombine.specs.Notes.{IsEndOfFile, IsOfFile, ended_after, note_of}
 use Rattle.covcombine.specs.Options.{AsksForOverview, AsksForPages, CombineData, IsCallFault, IsTwice}
 use Rattle.covcombine.specs.declared.call_fault.CallFault.TheVariants.{ManyPatterns, LongPattern, NoRate, BadPath, BadTest, NoRoom, NoPages, BadSource, NoName, Twice, OneFile}
 use Rattle.covcombine.specs.declared.call_fault.CallOption.{CallOption}
 use Rattle.covcombine.specs.declared.call_fault.WorkFault.{WorkFault}
 use Rattle.covcombine.specs.declared.call_fault.WorkFault.TheVariants as works
 use Rattle.covcombine.specs.declared.note.Counts.{Counts}
+use Rattle.covcombine.specs.declared.note.FileEnd.{FileEnd}
 use Rattle.covcombine.specs.declared.note.Note.{Note}
 use Rattle.covcombine.specs.declared.note.Note.TheVariants.{Unreadable, Faulty}
 use Rattle.covcombine.specs.declared.opened.Opened.{Opened}
@@ -114,6 +115,11 @@ MayGiveFrom left failed_reads folder new strictness name stages.Unopened outcome
 MayGiveFrom left failed_reads folder new strictness name (stages.Reading opened) outcome = MayGiveLater left failed_reads new (stages.Reading opened) outcome
 MayGiveFrom left failed_reads folder new strictness name (stages.Ended note) outcome = MayGiveLater left failed_reads new (stages.Ended note) outcome
 
+-- the same with the number of the file's pieces. `before`: how many pieces were read before
+abbrev pub MayEndFrom : {S : Type 0} → (left : S → Option (List ℕ)) → (failed_reads : S → ℕ) → FolderData → NamesData → Strictness → (name : List ℕ) → Stage S → (before : ℕ) → OutcomeData FileEnd → Type 0
+MayEndFrom left failed_reads folder new strictness name stage before outcome =
+    (given : OutcomeData Note) × MayGiveFrom left failed_reads folder new strictness name stage given × (outcome ≡ ended_after before given)
+
 -- the file was opened before
 abbrev pub IsLater : {S : Type 0} → Stage S → Type 0
 IsLater stages.Unopened = ⊥
@@ -139,14 +145,24 @@ pub record IsNextStage {S : Type 0} (left : S → Option (List ℕ)) (failed_rea
   pub gives : (outcome : OutcomeData Note) → MayGiveLater left failed_reads new stage outcome
       → MayGiveOpened left failed_reads new opened (in_front submission outcome)
 
+-- the next piece of a file at this stage was read: this is its submission with its new names, and this the next stage. Whatever that
+-- gives, the file may give with the submission in front
+pub record IsStageRead {S : Type 0} (left : S → Option (List ℕ)) (failed_reads : S → ℕ) (folder : FolderData) (new : NamesData) (strictness : Strictness) (name : List ℕ) (stage : Stage S)
+    (submission : SubmissionData) (next : Stage S) : Type 0 where
+  pub fewer : most_parts next < most_parts stage
+  pub later : IsLater next
+  pub gives : (outcome : OutcomeData Note) → MayGiveFrom left failed_reads folder new strictness name next outcome
+      → MayGiveFrom left failed_reads folder new strictness name stage (in_front submission outcome)
+
 -- a file gives nothing more: it ends with its note, or memory ran out
 abbrev pub EndsWith : (MayGive : OutcomeData Note → Type 0) → Stop → Type 0
 EndsWith MayGive (stops.Ended note) = MayGive (record { read = []; fault = Some note })
 EndsWith MayGive stops.Memory = Unit {0}
 
-abbrev pub of_stop : Stop → LateFault Note
-of_stop (stops.Ended note) = late.Refused note
-of_stop stops.Memory = late.Memory
+-- why a file gives nothing more, after so many pieces
+abbrev pub of_stop : (pieces : ℕ) → Stop → LateFault FileEnd
+of_stop pieces (stops.Ended note) = late.Refused (record { pieces = pieces; note = note })
+of_stop pieces stops.Memory = late.Memory
 
 -- a fault of a piece, and of reading blocks
 abbrev pub of_piece : PieceFault → Stop
@@ -161,14 +177,14 @@ of_block blocks.Memory = stops.Memory
 -- ---- collecting
 
 -- this history and these notes are collected of the files by this number of jobs
-abbrev pub AreCollected : FolderData → (jobs : ℕ) → CombineData → List EntryData → List (RefusedInput Note) → Type 0
-AreCollected folder jobs work entries notes = IsCollectedSoFar (IsOfFile folder work.new work.strictness) work.files jobs entries notes
+abbrev pub AreCollected : FolderData → (jobs : ℕ) → CombineData → List EntryData → List (RefusedInput FileEnd) → Type 0
+AreCollected folder jobs work entries notes = IsCollectedSoFar (IsEndOfFile folder work.new work.strictness) work.files jobs entries notes
 
 -- collecting may stop for this reason: not for the number of jobs unless that is out of range, and not for a full history unless the
 -- files fill it
 abbrev pub StopsCollecting : FolderData → (jobs : ℕ) → CombineData → CollectFault → Type 0
 StopsCollecting folder jobs work fault =
-    (fault ≡ collects.BadJobs → AreJobs jobs → ⊥) × MayCome (FillHistory (IsOfFile folder work.new work.strictness) work.files) fault
+    (fault ≡ collects.BadJobs → AreJobs jobs → ⊥) × MayCome (FillHistory (IsEndOfFile folder work.new work.strictness) work.files) fault
 
 -- ---- reports
 

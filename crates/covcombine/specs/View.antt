@@ -1,8 +1,11 @@
 -- Values of the code, seen as plain data.
 use Rattle.std.specs.Prelude.{map, option_map}
 use Rattle.std.specs.String.{string_bytes}
+use Rattle.covbook.specs.EntryView.{entry_data}
+use Rattle.covbook.specs.Op.{EntryData}
 use Rattle.covlimit.specs.LimitsView.{limits_data}
 use Rattle.covreport.specs.ChoiceView.{choice_data}
+use Rattle.covtable.specs.Clash.{ClashData}
 use Rattle.covtable.specs.Shown.{ShownData}
 use Rattle.covcombine.specs.Combine.{EndingData, Fails, Gives, GivenData, PagesData, TextsData}
 use Rattle.covcombine.specs.Options.{CombineData}
@@ -11,7 +14,16 @@ use Rattle.covcombine.specs.declared.ending.Ending.TheVariants as endings
 use Rattle.covcombine.specs.declared.ending.Given.{Given}
 use Rattle.covcombine.specs.declared.ending.Pages.{Pages}
 use Rattle.covcombine.specs.declared.ending.Texts.{Texts}
+use Rattle.covcombine.specs.declared.job_answer.JobAnswer.{JobAnswer}
+use Rattle.covcombine.specs.declared.messages.Clash.{Clash}
 use Rattle.covcombine.specs.declared.work.Work.{Work}
+
+abbrev pub clash_data : Clash → ClashData
+clash_data clash = record { file = clash.file.now; line = clash.line; held = clash.held.now; given = clash.given.now }
+
+-- the entry of which an answer and its job are kept
+abbrev pub kept_data : JobAnswer → EntryData
+kept_data kept = entry_data (record kept.entry.value { job = kept.job; answer = kept.answer })
 
 abbrev pub work_data : Work → CombineData
 work_data work = record {

@@ -1,25 +1,26 @@
 //! How a call ends.
 
-ghost use Rattle.std.specs.Prelude.{◌≡◌, ◌++◌, [], not, map, slice_get, unwrap_or, option_map, IfOk, OnOk};
+ghost use Rattle.std.specs.Prelude.{◌≡◌, ◌<◌, ◌++◌, [], map, slice_get, unwrap_or, option_map, IfOk, OnOk};
 ghost use Rattle.std.specs.List.{list_all};
 ghost use Rattle.std.specs.String.{string_bytes};
-ghost use Rattle.covbook.specs.EntryView.{entry_data};
 ghost use Rattle.covbook.specs.View.{answer_data};
 ghost use Rattle.covtable.specs.ValuesView.{file_totals_data};
 ghost use Rattle.covreport.specs.ChoiceView.{choice_data};
 ghost use Rattle.covworkers.specs.Late.{MayComeAtAll};
-ghost use Rattle.covcombine.specs.Combine.{answer_status as status_of_answer, clash_lines, clash_of_answer, end_of as ends_with, failure_status as worst_status, failures as failures_of, given as given_of, is_clash as is_clash_answer, is_merged, is_used as is_used_rule, is_whole as is_whole_call, judged_by, lines_by, merged_in, misfits_told, overview_text, pages_asked, pattern_lines, refusal_of, unexpected, unmatched, unused_from, warning_of, warnings as warnings_of};
+ghost use Rattle.covcombine.specs.Combine.{answer_status as status_of_answer, end_of as ends_with, failure_status as worst_status, failures as failures_of, given as given_of, is_merged, is_used as is_used_rule, is_whole as is_whole_call, judged_by, lines_by, merged_in, misfits_told, overview_text, pages_asked, pattern_lines, refusal_of, unexpected, unmatched, unused_from, warning_of, warnings as warnings_of};
 ghost use Rattle.covcombine.specs.Combined.{of_call_fault, of_collecting, out_of_memory};
-ghost use Rattle.covcombine.specs.View.{ending_data, given_data, pages_data, texts_data, work_data};
+ghost use Rattle.covcombine.specs.View.{ending_data, given_data, kept_data, pages_data, texts_data, work_data};
 
 use crate::call_fault::{CallFault, CallOption};
+use crate::clashes::{have_no_clash, is_clash, put_clashes};
+use crate::job_answer::JobAnswer;
 use crate::messages::{
-    put_call_fault, put_clash, put_expected, put_fault, put_misfits, put_no_record, put_none_left,
+    put_call_fault, put_expected, put_fault, put_misfits, put_no_record, put_none_left,
     put_strange, put_unmatched, put_unreadable, put_unused,
 };
-use crate::note::Note;
+use crate::note::{FileEnd, Note};
 use crate::work::Work;
-use covbook::{Answer, Answered};
+use covbook::Answer;
 use covcommand::{Overview, PageTexts, Strictness, TotalsForm};
 use covdata::{Bytes, Memory};
 use covlimit::shortfall_lines;
@@ -123,16 +124,18 @@ pub(crate) fn end_for_collecting<'b, T: Table<Global>>(fault: CollectFault) -> E
     }
 }
 
-/// How a call ends after its files are collected.
+/// How a call ends after its files are collected by so many `jobs`.
 pub(crate) fn end_of<'b, T: Table<Global>>(
     alloc: Global,
     work: Work<'b>,
-    collected: &'b CollectedBook<T, Note>,
+    jobs: u32,
+    collected: &'b CollectedBook<T, FileEnd, JobAnswer>,
 ) -> Result<Ending<'b, T>, Memory>
-    ensures { IfOk result (λ ending. ending_data T.shown ending ≡ ends_with (work_data work.entry) collected.now.book.entries collected.now.refused) }
+    requires { 0 < jobs }
+    ensures { IfOk result (λ ending. ending_data T.shown ending ≡ ends_with (work_data work.entry) jobs collected.now.book.entries collected.now.refused) }
 {
     let warnings = warnings(alloc, &work, collected)?;
-    let failures = failures(alloc, &work, collected)?;
+    let failures = failures(alloc, &work, jobs, collected)?;
     if failures.get().is_empty() {
         let given = given_for(alloc, work, collected.book.store(), warnings)?;
         return Ok(Ending::Gives(given));
@@ -234,7 +237,7 @@ fn overview_of<T: Table<Global>>(
 fn warnings<T: Table<Global>>(
     alloc: Global,
     work: &Work<'_>,
-    collected: &CollectedBook<T, Note>,
+    collected: &CollectedBook<T, FileEnd, JobAnswer>,
 ) -> Result<Bytes, Memory>
     ensures { IfOk result (λ lines. lines ≡ warnings_of (work_data work.now) collected.now.book.entries collected.now.refused) }
 {
@@ -255,14 +258,23 @@ fn warnings<T: Table<Global>>(
 fn failures<T: Table<Global>>(
     alloc: Global,
     work: &Work<'_>,
-    collected: &CollectedBook<T, Note>,
+    jobs: u32,
+    collected: &CollectedBook<T, FileEnd, JobAnswer>,
 ) -> Result<Bytes, Memory>
-    ensures { IfOk result (λ lines. lines ≡ failures_of (work_data work.now) collected.now.book.entries collected.now.refused) }
+    requires { 0 < jobs }
+    ensures { IfOk result (λ lines. lines ≡ failures_of (work_data work.now) jobs collected.now.book.entries collected.now.refused) }
 {
     let notes = collected.refused.get();
     let mut lines = Bytes::new(alloc);
     put_refusals(work.strictness, work.files, notes, &mut lines)?;
-    put_clashes(collected.book.kept(), &mut lines)?;
+    put_clashes(
+        alloc,
+        jobs,
+        work.files,
+        notes,
+        collected.book.kept(),
+        &mut lines,
+    )?;
     put_unexpected(work.expected, notes, &mut lines)?;
     if let Strictness::Strict = work.strictness {
         put_judged(alloc, b"", work, collected, &mut lines)?;
@@ -274,13 +286,18 @@ fn failures<T: Table<Global>>(
 fn put_warnings(
     strictness: Strictness,
     files: &[String],
-    notes: &[RefusedInput<Note>],
+    notes: &[RefusedInput<FileEnd>],
     lines: &mut Bytes,
 ) -> Result<(), Memory>
     ensures { OnOk result (lines.new ≡ lines.old ++ lines_by (warning_of strictness) (map string_bytes files.now) notes.now) }
 {
     for note in notes {
-        put_warning(strictness, file_name(files, note.index), &note.fault, lines)?;
+        put_warning(
+            strictness,
+            file_name(files, note.index),
+            &note.fault.note,
+            lines,
+        )?;
     }
     Ok(())
 }
@@ -322,13 +339,18 @@ fn put_if_misfits(
 fn put_refusals(
     strictness: Strictness,
     files: &[String],
-    notes: &[RefusedInput<Note>],
+    notes: &[RefusedInput<FileEnd>],
     lines: &mut Bytes,
 ) -> Result<(), Memory>
     ensures { OnOk result (lines.new ≡ lines.old ++ lines_by (refusal_of strictness) (map string_bytes files.now) notes.now) }
 {
     for note in notes {
-        put_refusal(strictness, file_name(files, note.index), &note.fault, lines)?;
+        put_refusal(
+            strictness,
+            file_name(files, note.index),
+            &note.fault.note,
+            lines,
+        )?;
     }
     Ok(())
 }
@@ -357,7 +379,7 @@ fn put_refusal(
 }
 
 /// The name of the file at `index`; empty if the index is out of range.
-fn file_name(files: &[String], index: usize) -> &str
+pub(crate) fn file_name(files: &[String], index: usize) -> &str
     ensures { result.now ≡ unwrap_or (slice_get (map string_bytes files.now) index) [] }
 {
     match files.get(index) {
@@ -366,39 +388,10 @@ fn file_name(files: &[String], index: usize) -> &str
     }
 }
 
-/// Appends a line for each clash among the answers.
-fn put_clashes(answers: &[Answered], lines: &mut Bytes) -> Result<(), Memory>
-    ensures { OnOk result (lines.new ≡ lines.old ++ clash_lines (map (λ k. entry_data (record k.entry.value { answer = k.answer })) answers.now)) }
-{
-    for answered in answers {
-        put_if_clash(&answered.answer, lines)?;
-    }
-    Ok(())
-}
-
-/// Appends the line about `answer` if it is a clash.
-fn put_if_clash(answer: &Answer, lines: &mut Bytes) -> Result<(), Memory>
-    ensures { OnOk result (lines.new ≡ lines.old ++ clash_of_answer (answer_data answer.now)) }
-{
-    match answer {
-        Answer::Clash {
-            file,
-            line,
-            held,
-            given,
-        } => put_clash(file.get(), *line, held.get(), given.get(), lines),
-        Answer::Accepted { .. }
-        | Answer::Dropped { .. }
-        | Answer::Renamed { .. }
-        | Answer::NoSuchTest
-        | Answer::Text(_) => Ok(()),
-    }
-}
-
 /// Appends the line about the number of files that were read, if another number is expected.
 fn put_unexpected(
     expected: Option<u32>,
-    notes: &[RefusedInput<Note>],
+    notes: &[RefusedInput<FileEnd>],
     lines: &mut Bytes,
 ) -> Result<(), Memory>
     ensures { OnOk result (lines.new ≡ lines.old ++ unexpected expected (merged_in notes.now)) }
@@ -414,12 +407,12 @@ fn put_unexpected(
 }
 
 /// How many files were merged.
-fn count_merged(notes: &[RefusedInput<Note>]) -> u64
+fn count_merged(notes: &[RefusedInput<FileEnd>]) -> u64
     ensures { result ≡ merged_in notes.now }
 {
     let mut merged: u64 = 0;
     for note in notes {
-        if note.fault.is_merged() {
+        if note.fault.note.is_merged() {
             merged += 1;
         }
     }
@@ -432,7 +425,7 @@ fn put_judged<T: Table<Global>>(
     alloc: Global,
     front: &[u8],
     work: &Work<'_>,
-    collected: &CollectedBook<T, Note>,
+    collected: &CollectedBook<T, FileEnd, JobAnswer>,
     lines: &mut Bytes,
 ) -> Result<(), Memory>
     ensures { OnOk result (lines.new ≡ lines.old ++ judged_by front.now (work_data work.now) collected.now.book.entries collected.now.refused) }
@@ -454,7 +447,7 @@ fn put_judged<T: Table<Global>>(
 fn put_paths(
     front: &[u8],
     rules: &[PathRule<'_>],
-    notes: &[RefusedInput<Note>],
+    notes: &[RefusedInput<FileEnd>],
     lines: &mut Bytes,
 ) -> Result<(), Memory>
     ensures { OnOk result (lines.new ≡ lines.old ++ unused_from front.now notes.now 0 rules.now) }
@@ -469,11 +462,11 @@ fn put_paths(
 }
 
 /// Whether the rule for paths at this place was applied to a source file.
-fn is_used(notes: &[RefusedInput<Note>], rule: usize) -> bool
+fn is_used(notes: &[RefusedInput<FileEnd>], rule: usize) -> bool
     ensures { result ≡ is_used_rule notes.now rule }
 {
     for note in notes {
-        if note.fault.has_used(rule) {
+        if note.fault.note.has_used(rule) {
             return true;
         }
     }
@@ -481,48 +474,22 @@ fn is_used(notes: &[RefusedInput<Note>], rule: usize) -> bool
 }
 
 /// Whether each file was read, and all of it was added up.
-fn is_whole<T: Table<Global>>(collected: &CollectedBook<T, Note>) -> bool
+fn is_whole<T: Table<Global>>(collected: &CollectedBook<T, FileEnd, JobAnswer>) -> bool
     ensures { result ≡ is_whole_call collected.now.book.entries collected.now.refused }
 {
     are_merged(collected.refused.get()) && have_no_clash(collected.book.kept())
 }
 
 /// Whether each file was merged.
-fn are_merged(notes: &[RefusedInput<Note>]) -> bool
-    ensures { result ≡ list_all (λ n. is_merged n.fault) notes.now }
+fn are_merged(notes: &[RefusedInput<FileEnd>]) -> bool
+    ensures { result ≡ list_all (λ n. is_merged n.fault.note) notes.now }
 {
     for note in notes {
-        if !note.fault.is_merged() {
+        if !note.fault.note.is_merged() {
             return false;
         }
     }
     true
-}
-
-/// Whether no answer is a clash.
-fn have_no_clash(answers: &[Answered]) -> bool
-    ensures { result ≡ list_all (λ e. not (is_clash_answer e.answer)) (map (λ k. entry_data (record k.entry.value { answer = k.answer })) answers.now) }
-{
-    for answered in answers {
-        if is_clash(&answered.answer) {
-            return false;
-        }
-    }
-    true
-}
-
-/// Whether the answer is a clash.
-fn is_clash(answer: &Answer) -> bool
-    ensures { result ≡ is_clash_answer (answer_data answer.now) }
-{
-    match answer {
-        Answer::Clash { .. } => true,
-        Answer::Accepted { .. }
-        | Answer::Dropped { .. }
-        | Answer::Renamed { .. }
-        | Answer::NoSuchTest
-        | Answer::Text(_) => false,
-    }
 }
 
 /// Appends what is doubtful of the patterns of `choice`. `files` are the source files of all tracefiles.
@@ -563,15 +530,15 @@ fn put_all_unmatched(
 }
 
 /// The worst status of a call that fails, which is the least.
-fn failure_status(notes: &[RefusedInput<Note>], answers: &[Answered]) -> u8
-    ensures { result ≡ worst_status (map (λ k. entry_data (record k.entry.value { answer = k.answer })) answers.now) notes.now }
+fn failure_status(notes: &[RefusedInput<FileEnd>], answers: &[JobAnswer]) -> u8
+    ensures { result ≡ worst_status (map kept_data answers.now) notes.now }
 {
     let mut status = 5;
     for note in notes {
-        status = status.min(note.fault.status());
+        status = status.min(note.fault.note.status());
     }
-    for answered in answers {
-        status = status.min(answer_status(&answered.answer));
+    for one in answers {
+        status = status.min(answer_status(&one.answer));
     }
     status
 }

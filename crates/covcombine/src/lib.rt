@@ -34,8 +34,10 @@
 #![tactic(auto)]
 
 mod call_fault;
+mod clashes;
 mod ending;
 mod file_names;
+mod job_answer;
 mod jobs;
 mod messages;
 mod note;
@@ -46,7 +48,7 @@ mod stranger;
 mod tracefile;
 mod work;
 
-ghost use Rattle.std.specs.Prelude.{◌≡◌, map, option_map, IfOk, IfErr};
+ghost use Rattle.std.specs.Prelude.{◌≡◌, ◌<◌, map, option_map, IfOk, IfErr};
 ghost use Rattle.std.specs.String.{string_bytes};
 ghost use Rattle.covworld.specs.Folder.{folder_data};
 ghost use Rattle.covworld.specs.World.{CanCall};
@@ -59,8 +61,9 @@ ghost use Rattle.covcombine.specs.View.{ending_data, work_data};
 use crate::call_fault::WorkFault;
 use crate::ending::{Ending, end_for_collecting, end_for_fault, end_of, no_memory};
 use crate::file_names::names_of;
+use crate::job_answer::JobAnswer;
 use crate::jobs::jobs_for;
-use crate::note::Note;
+use crate::note::FileEnd;
 use crate::report::report;
 use crate::tracefile::tracefiles;
 use crate::work::{Work, work_of};
@@ -212,7 +215,7 @@ fn do_work<
         folder.end_reading();
     }
     match collected {
-        Ok(collected) => match end_of::<T>(alloc, work, &collected) {
+        Ok(collected) => match end_of::<T>(alloc, work, jobs, &collected) {
             Ok(ending) => report(alloc, folder, ending, file, world),
             Err(_) => report::<F, P, I, O, E, T>(alloc, folder, no_memory(), file, world),
         },
@@ -245,8 +248,9 @@ fn collect_files<
     alloc: Global,
     work: &Work<'_>,
     jobs: u32,
-) -> Result<CollectedBook<T, Note>, CollectFault>
+) -> Result<CollectedBook<T, FileEnd, JobAnswer>, CollectFault>
     ensures collected { IfOk result (λ c. AreCollected (folder_data F.Folder F.File.Source folder.now) jobs (work_data work.now) c.book.entries c.refused) }
+    ensures jobs { IfOk result (λ _. 0 < jobs) }
     ensures stopped { IfErr result (StopsCollecting (folder_data F.Folder F.File.Source folder.now) jobs (work_data work.now)) }
 {
     let Ok(inputs) = tracefiles(folder, alloc, &work.new_names, work.strictness, work.files) else {

@@ -2,7 +2,8 @@
 
 ghost use Rattle.std.specs.Prelude.{◌≡◌, ◌++◌, None, OnOk, codes, decimal, option_map};
 ghost use Rattle.covlist.specs.Shown.{shown_name};
-ghost use Rattle.covcombine.specs.Messages.{begins_words, but_pages, but_written, call_fault_line, clash_line, counted, cut_line, error_line, expected_line, fault_line, line_fault_words as words_of_line_fault, misfit_words as words_of_misfits, misfits_line, no_record_line, no_record_words, none_left_line, option_name, packed_words, pages_lines, quoted, quoted_byte, read_words as words_of_read, reason_hint as hint_of_reason, rule_fault_words as words_of_rule_fault, strange_words, system_words as words_of_system, told, told_at, unmatched_line, unreadable_line, unused_line, unwritten_line, write_words as words_of_write};
+ghost use Rattle.covcombine.specs.Messages.{begins_words, but_pages, but_written, call_fault_line, checksum_words, clash_line, counted, cut_line, error_line, expected_line, fault_line, line_fault_words as words_of_line_fault, misfit_words as words_of_misfits, misfits_line, more_clashes, no_record_line, no_record_words, none_left_line, option_name, packed_words, pages_lines, quoted, quoted_byte, read_words as words_of_read, reason_hint as hint_of_reason, rule_fault_words as words_of_rule_fault, strange_words, system_words as words_of_system, told, told_at, unmatched_line, unreadable_line, unused_line, unwritten_line, write_words as words_of_write};
+ghost use Rattle.covcombine.specs.View.{clash_data};
 
 use crate::call_fault::{CallFault, CallOption};
 use crate::stranger::Stranger;
@@ -12,6 +13,15 @@ use covlist::put_shown_name;
 use covpages::PagesFault;
 use covpaths::RuleFault;
 use covworld::Reason;
+
+/// Two different checksums of a line of a source file: the one that was held, and the one that was given later.
+#[derive(Clone, Copy)]
+pub(crate) struct Clash<'a> {
+    pub(crate) file: &'a [u8],
+    pub(crate) line: u64,
+    pub(crate) held: &'a [u8],
+    pub(crate) given: &'a [u8],
+}
 
 /// Appends a number and a space, and then `one` if the number is 1, otherwise `many`.
 fn put_counted(number: u64, one: &[u8], many: &[u8], lines: &mut Bytes) -> Result<(), Memory>
@@ -59,11 +69,7 @@ fn put_told_at(name: &[u8], line: u64, words: &[u8], lines: &mut Bytes) -> Resul
 }
 
 /// Appends the line about the file called `name`, which can't be read for this `reason`.
-pub(crate) fn put_unreadable(
-    name: &[u8],
-    reason: Reason,
-    lines: &mut Bytes,
-) -> Result<(), Memory>
+pub(crate) fn put_unreadable(name: &[u8], reason: Reason, lines: &mut Bytes) -> Result<(), Memory>
     ensures { OnOk result (lines.new ≡ lines.old ++ unreadable_line name.now reason) }
 {
     put_name(name, lines)?;
@@ -331,22 +337,51 @@ pub(crate) fn put_none_left(front: &[u8], lines: &mut Bytes) -> Result<(), Memor
     lines.append(b"--include and --exclude leave no source file\n")
 }
 
-/// Appends the line about two different checksums, `held` and `given`, of a line of the source file called `file`.
+/// Appends the line about the tracefile called `name`, which has this `clash`, and so many `more` pieces that clash.
 pub(crate) fn put_clash(
-    file: &[u8],
-    line: u64,
-    held: &[u8],
-    given: &[u8],
+    name: &[u8],
+    clash: Clash<'_>,
+    more: u64,
     lines: &mut Bytes,
 ) -> Result<(), Memory>
-    ensures { OnOk result (lines.new ≡ lines.old ++ clash_line (record { file = file.now; line = line; held = held.now; given = given.now })) }
+    ensures { OnOk result (lines.new ≡ lines.old ++ clash_line name.now (clash_data clash.entry) more) }
 {
-    put_place(file, line, lines)?;
-    lines.append(b"checksum ")?;
-    put_shown_name(given, lines)?;
-    lines.append(b", but ")?;
-    put_shown_name(held, lines)?;
-    lines.append(b" in an earlier record: two versions of the source?\n")
+    put_name(name, lines)?;
+    lines.append(b"checksum of ")?;
+    put_shown_name(clash.file, lines)?;
+    lines.append(b":")?;
+    lines.append_number(clash.line)?;
+    put_checksums(clash, lines)?;
+    put_more_clashes(more, lines)?;
+    lines.append(b"\n")
+}
+
+/// Appends the two checksums of a clash.
+fn put_checksums(clash: Clash<'_>, lines: &mut Bytes) -> Result<(), Memory>
+    ensures { OnOk result (lines.new ≡ lines.old ++ checksum_words clash.given.now clash.held.now) }
+{
+    lines.append(b" is ")?;
+    put_shown_name(clash.given, lines)?;
+    lines.append(b", but an earlier record has ")?;
+    put_shown_name(clash.held, lines)?;
+    lines.append(b": two versions of the source?")
+}
+
+/// Appends how many more pieces of a file clash, if some do.
+fn put_more_clashes(more: u64, lines: &mut Bytes) -> Result<(), Memory>
+    ensures { OnOk result (lines.new ≡ lines.old ++ more_clashes more) }
+{
+    if more == 0 {
+        return Ok(());
+    }
+    lines.append(b" (and ")?;
+    put_counted(
+        more,
+        b"more piece of the file clashes",
+        b"more pieces of the file clash",
+        lines,
+    )?;
+    lines.append(b")")
 }
 
 /// Appends the line about another number of files than the expected one.

@@ -45,6 +45,13 @@ impl Counts {
     }
 }
 
+/// How a file ends: how many pieces it has, and what came of it. The number saturates at 2^64 - 1.
+#[derive(Drop)]
+pub(crate) struct FileEnd {
+    pub(crate) pieces: u64,
+    pub(crate) note: Note,
+}
+
 /// What came of a file.
 #[derive(Drop)]
 pub(crate) enum Note {
@@ -71,7 +78,8 @@ impl Note {
     {
         match self {
             Note::Merged { .. } => true,
-            Note::Unreadable(_) | Note::Strange(_) | Note::NoRecord { .. } | Note::Faulty(_) => false,
+            Note::Unreadable(_) | Note::Strange(_) | Note::NoRecord { .. } | Note::Faulty(_) =>
+                false,
         }
     }
 
@@ -81,7 +89,8 @@ impl Note {
     {
         match self {
             Note::Merged { used, .. } => used.get(rule),
-            Note::Unreadable(_) | Note::Strange(_) | Note::NoRecord { .. } | Note::Faulty(_) => false,
+            Note::Unreadable(_) | Note::Strange(_) | Note::NoRecord { .. } | Note::Faulty(_) =>
+                false,
         }
     }
 

@@ -1,6 +1,6 @@
 //! Why a file gives no further chunk.
 
-use crate::note::Note;
+use crate::note::{FileEnd, Note};
 use covdata::Memory;
 use covlarge::PieceFault;
 use covstream::BlockFault;
@@ -16,16 +16,17 @@ pub(crate) enum Stop {
     Memory,
 }
 
-// Collecting takes a note as it takes the error of an input.
-impl From<Stop> for LateFault<Note> {
+impl Stop {
     ghost use Rattle.std.specs.Prelude.{◌≡◌};
     ghost use Rattle.covcombine.specs.Steps.{of_stop};
 
-    ghost from_gives = { λ stop fault. fault ≡ of_stop stop };
-
-    fn from(stop: Stop) -> LateFault<Note> {
-        match stop {
-            Stop::Ended(note) => LateFault::Refused(note),
+    /// Why a file gives no further chunk, after so many `pieces`. Collecting takes the end of a file as it takes the error of an
+    /// input.
+    pub(crate) fn after(self, pieces: u64) -> LateFault<FileEnd>
+        ensures { result ≡ of_stop pieces self }
+    {
+        match self {
+            Stop::Ended(note) => LateFault::Refused(FileEnd { pieces, note }),
             Stop::Memory => LateFault::Memory,
         }
     }

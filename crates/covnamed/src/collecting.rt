@@ -11,7 +11,7 @@ ghost use Rattle.covworkers.specs.Late.{IsCollectedSoFar, IsIntoBookFault};
 ghost use Rattle.covlock.specs.Start.{AreJobs};
 
 use crate::CollectedBook;
-use covbook::Op;
+use covbook::{Answered, Op};
 use covjobs::Input;
 use covstore::Store;
 use covworkers::{CollectFault, Collected, Gate, IntoBookFault, LateInput};
@@ -66,5 +66,5 @@ pub fn collect_into_book<
     ensures unread { IfErr result (IsIntoBookFault T.may_give T.may_fail inputs.items) }
     ensures bad { (result ≡ Err (into_book.Collect faults.BadJobs)) ↔ (AreJobs jobs → ⊥) }
 {
-    covworkers::collect_into_book::<R, G, T, Store>(rt, alloc, inputs, jobs, gate)
+    covworkers::collect_into_book::<R, G, T, Store, Answered>(rt, alloc, inputs, jobs, gate)
 }

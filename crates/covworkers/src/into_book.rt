@@ -1,4 +1,4 @@
-//! Collects inputs into a book that stores only the answers of its history.
+//! Collects inputs into a book that stores only a part of each entry of its history.
 
 use crate::book_fault::IntoBookFault;
 use crate::collect_fault::CollectFault;
@@ -9,7 +9,7 @@ use crate::readers::Readers;
 use crate::refused::Refused;
 use crate::worker::Worker;
 use covbook::laws::{a_run_goes_on, calls_count_a_history, order_does_not_matter};
-use covbook::{Answered, Book, Receipt};
+use covbook::{Answered, Book, Entry, Keep, Receipt};
 use covdata::{Memory, ReadFault};
 use covlock::{Name, Seats, Start, open_book_keeping};
 use covreport::Table;
@@ -21,10 +21,10 @@ use std::thread::Threads;
 
 /// The result of `collect_into_book`, with a book over the store `S`.
 #[derive(Drop)]
-pub struct CollectedBook<S: Table<Global>, F: Drop = ReadFault> {
-    /// The book. Its table has the counts of all accepted submissions. Of its history, it stores only the answers; the rest exists
-    /// only in proofs.
-    pub book: Book<Global, S, Answered>,
+pub struct CollectedBook<S: Table<Global>, F: Drop = ReadFault, K: Keep<Of = Entry> = Answered> {
+    /// The book. Its table has the counts of all accepted submissions. Of each entry of its history, it stores only the part `K`, which
+    /// is the answer unless the caller chooses another one; the rest exists only in proofs.
+    pub book: Book<Global, S, K>,
     /// The rejected inputs, in the inputs' order. Of these inputs, only parts before the error are in the history.
     pub refused: Refused<Global, F>,
 }
@@ -56,20 +56,21 @@ pub fn collect_into_book<
     G: Gate + Sync,
     T: LateInput<Global, Fault: Send> + Send,
     S: Table<Global, Plan: Send, Renaming: Send> + Send,
+    K: Keep<Of = Entry> + Send,
 >(
     rt: &R,
     alloc: Global,
     inputs: Vec<T>,
     jobs: u32,
     gate: &G,
-) -> Result<CollectedBook<S, T::Fault>, IntoBookFault>
+) -> Result<CollectedBook<S, T::Fault, K>, IntoBookFault>
     ensures collected { IfOk result (λ c. IsCollectedSoFar T.may_give inputs.items jobs c.book.entries c.refused) }
     ensures not_full { IfOk result (λ c. length c.book.entries < max_entries) }
     ensures unread { IfErr result (IsIntoBookFault T.may_give T.may_fail inputs.items) }
     ensures bad { (result ≡ Err (into_book.Collect faults.BadJobs)) ↔ (AreJobs jobs → ⊥) }
 {
     let start = Start::new(alloc, jobs)?;
-    collect_named::<R, G, Brand, T, S>(rt, alloc, inputs, jobs, gate, start)
+    collect_named::<R, G, Brand, T, S, K>(rt, alloc, inputs, jobs, gate, start)
 }
 
 /// Like `collect_into_book`, with a book opened from `start`.
@@ -79,6 +80,7 @@ fn collect_named<
     L: Name + Send + Sync,
     T: LateInput<Global, Fault: Send> + Send,
     S: Table<Global, Plan: Send, Renaming: Send> + Send,
+    K: Keep<Of = Entry> + Send,
 >(
     rt: &R,
     alloc: Global,
@@ -86,7 +88,7 @@ fn collect_named<
     jobs: u32,
     gate: &G,
     start: Start,
-) -> Result<CollectedBook<S, T::Fault>, IntoBookFault>
+) -> Result<CollectedBook<S, T::Fault, K>, IntoBookFault>
     requires name { start.name ≡ L.name }
     requires parts { start.jobs ≡ L.parts }
     requires book { start.book ≡ L.book }
@@ -97,7 +99,7 @@ fn collect_named<
     ensures unread { IfErr result (IsIntoBookFault T.may_give T.may_fail inputs.items) }
     ensures jobs_are_good { result ≡ Err (into_book.Collect faults.BadJobs) → ⊥ }
 {
-    let (book, seats) = open_book_keeping::<L, Global, S, Answered>(alloc, start)?;
+    let (book, seats) = open_book_keeping::<L, Global, S, K>(alloc, start)?;
     let workers: Vec<Worker<L, Global, Snapshot<Receipt>, T::Fault>> = all_done(
         rt,
         alloc,

@@ -36,13 +36,16 @@ read_whole most left left_after empty text none (bytes, read, is, few) =
 pub unread : {F File : Type 0} (of : FolderOf F File) (file : SourceOf File) (folder : F) (name : List ℕ) (opened after : File) (fault : BlockFault)
     → of.may_open folder name opened → Keeps (of.holds folder name) (file.left opened)
     → IsReadFault (file.left opened) (file.left after) (file.failed_reads opened) (file.failed_reads after) fault → IsUnread (folder_data of file folder) name (of_block fault)
-unread of file folder name opened after Unreadable may_open keeps (bytes, given, failed) = inr (refl, record {
-  opened = opened;
-  may_open = may_open;
-  keeps = keeps;
-  after = after;
-  bytes = bytes;
-  given = given;
-  failed = omega (arith, failed);
-})
+unread of file folder name opened after Unreadable may_open keeps (bytes, given, failed) = inr (
+  refl,
+  record {
+    opened = opened;
+    may_open = may_open;
+    keeps = keeps;
+    after = after;
+    bytes = bytes;
+    given = given;
+    failed = omega (arith, failed);
+  },
+)
 unread of file folder name opened after Memory may_open keeps failed = tt
