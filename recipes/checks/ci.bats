@@ -71,7 +71,7 @@ load projects
     printf 'TN:unit\nDA:1,x\n' >jobs/broken.info
     call ci/ci.sh --no-html jobs/other.info jobs/broken.info
     ended 4 'ci.sh: status 4 for a broken tracefile'
-    says "$work/err" 'ci.sh: the broken tracefile and its line are told' 'jobs/broken.info:2: the fields don'\''t fit the line'\''s key: was the file cut here?'
+    says "$work/err" 'ci.sh: the broken tracefile and its line are told' 'jobs/broken.info:2: DA:1,x: an execution count was expected'
     rm jobs/broken.info
     printf 'SF:/x.c\nDA:12,1,abc\nend_of_record\n' >jobs/a.info
     printf 'SF:/x.c\nDA:12,1,abd\nend_of_record\n' >jobs/b.info

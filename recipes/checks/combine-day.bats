@@ -241,7 +241,7 @@ tells() { # WHAT [LINE]...
     fails 4 'combine: cut within a section' 'jobs/250.info: ends within a section: was its writer killed, or a disk full?' "$missing"
     { job 250 | head -n 14; printf 'DA:4'; } >jobs/250.info
     call "${day[@]}" jobs/*.info
-    fails 4 'combine: cut within a line' "jobs/250.info:15: the fields don't fit the line's key: was the file cut here?" "$missing"
+    fails 4 'combine: cut within a line' 'jobs/250.info:15: DA:4: an execution count was expected' "$missing"
     job 250 | tail -n +3 >jobs/250.info
     call "${day[@]}" jobs/*.info
     fails 4 'combine: without its beginning' 'jobs/250.info:1: the line stands in no section: is the beginning of the file missing?' "$missing"

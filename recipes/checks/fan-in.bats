@@ -48,7 +48,7 @@ load projects
     printf 'SF:/a.c\nDA:1,1\nCOUNT\nLF:7\nend_of_record\n' >jobs/page.info
     call ci/ci.sh --merge-only --no-html jobs/*.info
     ended 5 'ci.sh: a tracefile with odd and skipped lines'
-    says "$work/err" 'ci.sh: how many' "jobs/page.info: 2 lines don't fit: wrong totals, counts of functions that start nowhere, or unknown keys"
+    says "$work/err" 'ci.sh: which' 'jobs/page.info:3: COUNT: the key is unknown (and 1 more such line)'
     call ci/ci.sh --merge-only --no-html --empty skip jobs/*.info
     ended 0 'ci.sh: which --empty skip takes'
     says coverage/all.info 'ci.sh: with its counts' 'SF:/a.c' 'DA:1,1'

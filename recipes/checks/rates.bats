@@ -106,7 +106,7 @@ END
     same before.info all.info 'README: and all.info is still as it was'
     printf 'SF:/src/a.c\nDA:1,1\nLF:2\nend_of_record\n' >jobs/4.info
     script 80 "${strict[@]}"
-    told_alone 5 'README: with --strict so has an inconsistent file' 'jobs/4.info: 1 line doesn'\''t fit: wrong totals, counts of functions that start nowhere, or unknown keys'
+    told_alone 5 'README: with --strict so has an inconsistent file' 'jobs/4.info:3: LF:2, but the section has 1 line'
     same before.info all.info 'README: and all.info is as it was then'
     rm jobs/4.info
     # 8 of 14 lines.

@@ -118,8 +118,8 @@ covcollect-file	none/all.info	-	can't write
 covcollect-threshold	-	-	lines: 1 of 3 is below 66.7%
 covcollect-empty	page.info	-	sections 0 items 0 odd 0 skipped 1 first <html> at 1
 covcollect-clash	/s/a.c	1	clash /s/a.c 1 abc abd
-covcollect-combine-odd	odd.info	-	warning: 1 line doesn't fit: wrong totals, or counts of functions that start nowhere
-covcollect-combine-line	jobs of today/line.info	3	the fields don't fit the line's key: was the file cut here?
+covcollect-combine-odd	odd.info	2	warning: FNDA:1,f, but the section has no FN line of this function
+covcollect-combine-line	jobs of today/line.info	3	DA:x: a line number was expected
 covcollect-combine-file	cut.info	-	ends within a section: was its writer killed, or a disk full?
 covcollect-combine-file	none.info	-	No such file or directory
 covcollect-combine-file	page.info	-	no record (begins with "<html>")
@@ -129,8 +129,8 @@ covcollect-combine-clash	/src 2/a: b.c	12	given.info: checksum of /src 2/a: b.c:
 covcollect-combine-call	-	-	expected 9 files, but read 3
 covcollect-combine-call	-	-	--path /x=/y: applies to no source file
 covcollect-combine-call	-	-	--exclude /usr/*: matches no source file
-covcollect-combine-file	odd.info	-	1 line doesn't fit: wrong totals, counts of functions that start nowhere, or unknown keys
-covcollect-combine-file	skipped.info	-	2 lines don't fit: wrong totals, counts of functions that start nowhere, or unknown keys
+covcollect-combine-line	odd.info	2	FNDA:1,f, but the section has no FN line of this function
+covcollect-combine-line	skipped.info	3	LF:9, but the section has 1 line (and 1 more such line)
 covcollect-combine-warning	-	-	warning: --path /x=/y: applies to no source file
 covcollect-combine-file	none/all.info	-	No such file or directory
 covcollect-combine-file	clean.info	-	named twice

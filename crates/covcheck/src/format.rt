@@ -25,7 +25,7 @@ pub enum Format {
 impl Format {
     /// Whether the line is skipped in an input of this format. Returns `false` for an empty line.
     #[inline]
-    pub(crate) fn skips(self, line: &[u8]) -> bool
+    pub fn skips(self, line: &[u8]) -> bool
         ensures { IsTrue result ↔ IsSkippedIn self line.now }
     {
         match self {

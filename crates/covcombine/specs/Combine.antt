@@ -10,6 +10,7 @@ use Rattle.covcommand.specs.declared.asked.Strictness.{Strictness}
 use Rattle.covcommand.specs.declared.asked.Strictness.TheVariants.{Lenient, Strict}
 use Rattle.covcommand.specs.declared.asked.TotalsForm.{TotalsForm}
 use Rattle.covcommand.specs.declared.asked.TotalsForm.TheVariants.{Words, Json}
+use Rattle.covlarge.specs.declared.doubts.FirstDoubt.{FirstDoubt}
 use Rattle.covlimit.specs.Limits.{shortfalls}
 use Rattle.covlist.specs.Chosen.{chosen_files, chooses_any, is_matched, totals_of_chosen}
 use Rattle.covlist.specs.Json.{list_json_of, summary_json_of}
@@ -57,13 +58,14 @@ pub data EndingData : Type 0 where
 
 -- ---- lines about files
 
--- the line about a file with this name and this number of lines that don't fit
-abbrev pub misfits_told : (front : List ℕ) → Strictness → (name : List ℕ) → (misfits : ℕ) → List ℕ
-misfits_told front strictness name misfits = if misfits == 0 then [] else misfits_line front strictness name misfits
+-- the line about the lines of a file that don't fit, if there are some
+abbrev pub misfits_told : (front name : List ℕ) → (misfits : ℕ) → (first : Option FirstDoubt) → List ℕ
+misfits_told front name misfits None = []
+misfits_told front name misfits (Some first) = misfits_line front name misfits first
 
 -- what is doubtful of a file: a warning, unless the call is strict
 abbrev pub warning_of : Strictness → (name : List ℕ) → Note → List ℕ
-warning_of Lenient name (Merged misfits used) = misfits_told (codes "warning: ") Lenient name misfits
+warning_of Lenient name (Merged misfits first used) = misfits_told (codes "warning: ") name misfits first
 warning_of strictness name note = []
 
 -- why a call fails, if it fails for the file of this name
@@ -71,9 +73,9 @@ abbrev pub refusal_of : Strictness → (name : List ℕ) → Note → List ℕ
 refusal_of strictness name (Unreadable reason) = unreadable_line name reason
 refusal_of strictness name (Strange kind) = told name (strange_words name kind)
 refusal_of strictness name (NoRecord begins sections) = no_record_line name begins sections
-refusal_of strictness name (Faulty fault) = fault_line name fault
-refusal_of Lenient name (Merged misfits used) = []
-refusal_of Strict name (Merged misfits used) = misfits_told [] Strict name misfits
+refusal_of strictness name (Faulty fault line) = fault_line name fault line
+refusal_of Lenient name (Merged misfits first used) = []
+refusal_of Strict name (Merged misfits first used) = misfits_told [] name misfits first
 
 -- such a line about each file, in the files' order
 abbrev pub lines_by : (List ℕ → Note → List ℕ) → (files : List (List ℕ)) → List (RefusedInput FileEnd) → List ℕ
@@ -120,8 +122,8 @@ abbrev pub is_merged : Note → Bool
 is_merged (Unreadable reason) = false
 is_merged (Strange kind) = false
 is_merged (NoRecord begins sections) = false
-is_merged (Faulty fault) = false
-is_merged (Merged misfits used) = true
+is_merged (Faulty fault line) = false
+is_merged (Merged misfits first used) = true
 
 abbrev pub merged_in : List (RefusedInput FileEnd) → ℕ
 merged_in notes = count_by (λ (n : RefusedInput FileEnd). is_merged n.fault.note) notes
@@ -137,8 +139,8 @@ abbrev pub has_used : Note → (place : ℕ) → Bool
 has_used (Unreadable reason) place = false
 has_used (Strange kind) place = false
 has_used (NoRecord begins sections) place = false
-has_used (Faulty fault) place = false
-has_used (Merged misfits used) place = get_or used place false
+has_used (Faulty fault line) place = false
+has_used (Merged misfits first used) place = get_or used place false
 
 abbrev pub is_used : List (RefusedInput FileEnd) → (place : ℕ) → Bool
 is_used notes place = list_any (λ (n : RefusedInput FileEnd). has_used n.fault.note place) notes
@@ -221,8 +223,8 @@ abbrev pub note_status : Note → ℕ
 note_status (Unreadable reason) = 1
 note_status (Strange kind) = 5
 note_status (NoRecord begins sections) = 5
-note_status (Faulty fault) = 4
-note_status (Merged misfits used) = 5
+note_status (Faulty fault line) = 4
+note_status (Merged misfits first used) = 5
 
 abbrev pub answer_status : AnswerData → ℕ
 answer_status answer = if is_clash answer then 4 else 5

@@ -1,11 +1,16 @@
 -- The lines of `combine` on standard error, by their causes. Names, patterns and checksums are shown as in a list.
-use Rattle.std.specs.Prelude.{◌==◌, ◌++◌, ℕ, zero, suc, List, [], ◌∷◌, codes, decimal, flat_map, if◌then◌else◌, Option, None, Some}
-use Rattle.covcommand.specs.declared.asked.Strictness.{Strictness}
-use Rattle.covcommand.specs.declared.asked.Strictness.TheVariants.{Lenient, Strict}
+use Rattle.std.specs.Prelude.{◌==◌, ◌-◌, ◌++◌, ℕ, zero, suc, nat_le, List, [], ◌∷◌, codes, decimal, flat_map, length, take, if◌then◌else◌, Option, None, Some}
 use Rattle.covdata.specs.declared.fault.ReadFault.{ReadFault}
 use Rattle.covdata.specs.declared.fault.ReadFault.TheVariants as faults
 use Rattle.covdata.specs.declared.trace_line.LineFault.{LineFault}
-use Rattle.covdata.specs.declared.trace_line.LineFault.TheVariants.{BadLine, EmptyPath, NumberTooLarge}
+use Rattle.covdata.specs.declared.trace_line.LineFault.TheVariants as lines
+use Rattle.covdata.specs.declared.trace_line.TotalKind.{TotalKind}
+use Rattle.covdata.specs.declared.trace_line.TotalKind.TheVariants.{FuncFound, FuncHit, BranchFound, BranchHit, LineFound, LineHit}
+use Rattle.covexplain.specs.declared.doubt.Why.{Why}
+use Rattle.covexplain.specs.declared.doubt.Why.TheVariants as whys
+use Rattle.covexplain.specs.declared.fields.Field.{Field}
+use Rattle.covexplain.specs.declared.fields.Field.TheVariants as fields
+use Rattle.covlarge.specs.declared.doubts.FirstDoubt.{FirstDoubt}
 use Rattle.covlist.specs.Shown.{shown_name}
 use Rattle.covpages.specs.declared.fault.PagesFault.{PagesFault}
 use Rattle.covpages.specs.declared.fault.PagesFault.TheVariants as pages_faults
@@ -22,6 +27,7 @@ use Rattle.covcombine.specs.declared.call_fault.CallFault.{CallFault}
 use Rattle.covcombine.specs.declared.call_fault.CallFault.TheVariants.{ManyPatterns, LongPattern, NoRate, BadPath, BadTest, NoRoom, NoPages, BadSource, NoName, Twice, OneFile, UnreadList, LongList, NotText}
 use Rattle.covcombine.specs.declared.call_fault.CallOption.{CallOption}
 use Rattle.covcombine.specs.declared.call_fault.CallOption.TheVariants as options
+use Rattle.covcombine.specs.declared.note.BadLine.{BadLine}
 use Rattle.covcombine.specs.declared.stranger.Stranger.{Stranger}
 use Rattle.covcombine.specs.declared.stranger.Stranger.TheVariants.{Empty, Gzip, Compress, Bzip2, Xz, Zstd, Zip, Utf16, Marked, Gcda}
 
@@ -106,31 +112,90 @@ no_record_line name begins sections = told name (codes "no record (" ++ (no_reco
 
 -- ---- faults
 
-abbrev pub line_fault_words : LineFault → List ℕ
-line_fault_words BadLine = codes "the fields don't fit the line's key: was the file cut here?"
-line_fault_words NumberTooLarge = codes "a number is too large"
-line_fault_words EmptyPath = codes "no source file is named"
+-- how many bytes of a line are shown
+abbrev pub max_shown : ℕ
+max_shown = 80
 
--- a fault of the file of this name. The other faults are those of annotated source
-abbrev pub fault_line : (name : List ℕ) → ReadFault → List ℕ
-fault_line name (faults.Line at why) = told_at name at (line_fault_words why)
-fault_line name (faults.Outside at) = told_at name at (codes "the line stands in no section: is the beginning of the file missing?")
-fault_line name (faults.Inside at) = told_at name at (codes "the line stands in a section that isn't ended: were two files joined?")
-fault_line name (faults.Misplaced at) = told_at name at (codes "no FNL line of this index stands above the line in its section")
-fault_line name faults.OpenEnd = told name (codes "ends within a section: was its writer killed, or a disk full?")
-fault_line name faults.TooLong = told name (codes "no section ends within 64 MiB: is it a tracefile?")
-fault_line name other = told name (codes "refused")
+-- the beginning of a line, shown as a name is; two dots say that the line goes on
+abbrev pub shown_start : (start : List ℕ) → List ℕ
+shown_start start = if nat_le (length start) max_shown then shown_name start else shown_name (take max_shown start) ++ codes ".."
+
+-- what a field is; `None`: any field
+abbrev pub field_words : Option Field → List ℕ
+field_words (Some fields.LineNumber) = codes "a line number"
+field_words (Some fields.EndLine) = codes "an end line"
+field_words (Some fields.Count) = codes "an execution count"
+field_words (Some fields.Checksum) = codes "a checksum"
+field_words (Some fields.Name) = codes "a function's name"
+field_words (Some fields.Index) = codes "an index"
+field_words (Some fields.Block) = codes "a block number"
+field_words (Some fields.Branch) = codes "a branch"
+field_words (Some fields.Taken) = codes "a count or -"
+field_words (Some fields.Total) = codes "a number"
+field_words None = codes "another field"
+
+abbrev pub lacking_words : BadLine → List ℕ
+lacking_words line = shown_start line.start ++ (codes ": " ++ (field_words line.lacking ++ codes " was expected"))
+
+-- what is wrong with a line by itself that isn't shown
+abbrev pub line_fault_words : LineFault → List ℕ
+line_fault_words lines.BadLine = codes "the fields don't fit the line's key"
+line_fault_words lines.NumberTooLarge = codes "a number is too large"
+line_fault_words lines.EmptyPath = codes "no source file is named"
+
+abbrev pub bad_line_words : LineFault → Option BadLine → List ℕ
+bad_line_words fault None = line_fault_words fault
+bad_line_words lines.BadLine (Some line) = lacking_words line
+bad_line_words lines.NumberTooLarge (Some line) = shown_start line.start ++ codes ": a number is too large"
+bad_line_words lines.EmptyPath (Some line) = line_fault_words lines.EmptyPath
+
+abbrev pub bad_line_told : (name : List ℕ) → (at : ℕ) → LineFault → Option BadLine → List ℕ
+bad_line_told name at fault line = told_at name at (bad_line_words fault line)
+
+-- a fault of the file of this name. `line`: the line that is bad by itself, if there is one. The other faults are those of annotated
+-- source
+abbrev pub fault_line : (name : List ℕ) → ReadFault → (line : Option BadLine) → List ℕ
+fault_line name (faults.Line at why) line = bad_line_told name at why line
+fault_line name (faults.Outside at) line = told_at name at (codes "the line stands in no section: is the beginning of the file missing?")
+fault_line name (faults.Inside at) line = told_at name at (codes "the line stands in a section that isn't ended: were two files joined?")
+fault_line name (faults.Misplaced at) line = told_at name at (codes "no FNL line of this index stands above the line in its section")
+fault_line name faults.OpenEnd line = told name (codes "ends within a section: was its writer killed, or a disk full?")
+fault_line name faults.TooLong line = told name (codes "no section ends within 64 MiB: is it a tracefile?")
+fault_line name other line = told name (codes "refused")
 
 -- ---- doubts: warnings, or why a strict call fails. `front` is `warning: ` or nothing
 
-abbrev pub misfit_words : Strictness → List ℕ
-misfit_words Lenient = codes ": wrong totals, or counts of functions that start nowhere"
-misfit_words Strict = codes ": wrong totals, counts of functions that start nowhere, or unknown keys"
+-- what a total counts: one of it, and several
+abbrev pub one_counted : TotalKind → List ℕ
+one_counted LineFound = codes "line"
+one_counted LineHit = codes "hit line"
+one_counted FuncFound = codes "function"
+one_counted FuncHit = codes "hit function"
+one_counted BranchFound = codes "branch"
+one_counted BranchHit = codes "hit branch"
 
--- so many lines of the file of this name don't fit
-abbrev pub misfits_line : (front : List ℕ) → Strictness → (name : List ℕ) → ℕ → List ℕ
-misfits_line front strictness name number =
-    told name (front ++ (counted number (codes "line doesn't fit") (codes "lines don't fit") ++ misfit_words strictness))
+abbrev pub many_counted : TotalKind → List ℕ
+many_counted LineFound = codes "lines"
+many_counted LineHit = codes "hit lines"
+many_counted FuncFound = codes "functions"
+many_counted FuncHit = codes "hit functions"
+many_counted BranchFound = codes "branches"
+many_counted BranchHit = codes "hit branches"
+
+-- why a line doesn't fit
+abbrev pub why_words : Why → List ℕ
+why_words (whys.Total kind own) = codes ", but the section has " ++ counted own (one_counted kind) (many_counted kind)
+why_words whys.Unstarted = codes ", but the section has no FN line of this function"
+why_words whys.Unknown = codes ": the key is unknown"
+
+abbrev pub more_lines : ℕ → List ℕ
+more_lines zero = []
+more_lines (suc more) = codes " (and " ++ (counted (suc more) (codes "more such line") (codes "more such lines") ++ codes ")")
+
+-- so many lines of the file of this name don't fit, of which this is the first
+abbrev pub misfits_line : (front name : List ℕ) → (misfits : ℕ) → FirstDoubt → List ℕ
+misfits_line front name misfits first =
+    told_at name first.at (front ++ (shown_start first.start ++ (why_words first.why ++ more_lines (misfits - 1))))
 
 abbrev pub unmatched_line : (front option pattern : List ℕ) → List ℕ
 unmatched_line front option pattern = said (front ++ (option ++ (codes " " ++ (shown_name pattern ++ codes ": matches no source file"))))

@@ -6,13 +6,14 @@ use Rattle.covbook.specs.Op.{EntryData}
 use Rattle.covcommand.specs.declared.asked.CombineOptions.{CombineOptions}
 use Rattle.covcommand.specs.declared.asked.PageTexts.{PageTexts}
 use Rattle.covcommand.specs.declared.asked.Strictness.{Strictness}
-use Rattle.covcommand.specs.declared.asked.Strictness.TheVariants.{Lenient, Strict}
 use Rattle.covdata.specs.Lawful.{IsGoodTest}
 use Rattle.covdata.specs.Row.{SubmissionData, items_in}
-use Rattle.covdata.specs.declared.fault.ReadFault.{ReadFault}
 use Rattle.covlarge.specs.Large.{max_pieces}
 use Rattle.covlarge.specs.State.{MayFailFrom, MayGive}
-use Rattle.covlarge.specs.Summary.{SummaryData, told_number}
+use Rattle.covlarge.specs.Asked.{TellsDoubts}
+use Rattle.covlarge.specs.Summary.{told_number}
+use Rattle.covlarge.specs.declared.asked.Told.{Told}
+use Rattle.covlarge.specs.declared.fault.Refusal.{Refusal}
 use Rattle.covlarge.specs.declared.fault.PieceFault.{PieceFault}
 use Rattle.covlarge.specs.declared.fault.PieceFault.TheVariants as pieces
 use Rattle.covlimit.specs.Rates.{IsRate}
@@ -41,7 +42,7 @@ use Rattle.covworld.specs.World.{WorldData}
 use Rattle.covworld.specs.declared.reason.Reason.TheVariants as reasons
 use Rattle.covcombine.specs.FileNames.{AreApart, AreOneFile}
 use Rattle.covcombine.specs.Messages.{pages_lines}
-use Rattle.covcombine.specs.Notes.{IsEndOfFile, IsOfFile, ended_after, note_of}
+use Rattle.covcombine.specs.Notes.{IsEndOfFile, IsOfFile, ended_after, faulty, kinds_for, note_of}
 use Rattle.covcombine.specs.Options.{AsksForOverview, AsksForPages, CombineData, IsCallFault, IsTwice}
 use Rattle.covcombine.specs.declared.call_fault.CallFault.TheVariants.{ManyPatterns, LongPattern, NoRate, BadPath, BadTest, NoRoom, NoPages, BadSource, NoName, Twice, OneFile}
 use Rattle.covcombine.specs.declared.call_fault.CallOption.{CallOption}
@@ -50,7 +51,7 @@ use Rattle.covcombine.specs.declared.call_fault.WorkFault.TheVariants as works
 use Rattle.covcombine.specs.declared.note.Counts.{Counts}
 use Rattle.covcombine.specs.declared.note.FileEnd.{FileEnd}
 use Rattle.covcombine.specs.declared.note.Note.{Note}
-use Rattle.covcombine.specs.declared.note.Note.TheVariants.{Unreadable, Faulty}
+use Rattle.covcombine.specs.declared.note.Note.TheVariants.{Unreadable}
 use Rattle.covcombine.specs.declared.opened.Opened.{Opened}
 use Rattle.covcombine.specs.declared.opened.Stage.{Stage}
 use Rattle.covcombine.specs.declared.opened.Stage.TheVariants as stages
@@ -60,47 +61,38 @@ use Rattle.covcombine.specs.declared.stop.Stop.TheVariants as stops
 -- ---- tracefiles
 
 abbrev pub no_counts : Counts
-no_counts = record { sections = 0; items = 0; odd = 0 }
+no_counts = record { sections = 0; items = 0 }
 
 -- the counts with those of further submissions
 abbrev pub counts_with : Counts → List SubmissionData → Counts
 counts_with counts read = record {
   sections = told_number (counts.sections + sum_by (λ s. length s.sects) read);
   items = told_number (counts.items + sum_by (λ s. items_in s.sects) read);
-  odd = told_number (counts.odd + sum_by (λ s. s.odd) read);
 }
 
 -- the rules that were applied, with those for further submissions
 abbrev pub used_with : List RuleData → (used : List Bool) → List SubmissionData → List Bool
 used_with rules used read = used_after rules used (flat_map (λ s. s.sects) read)
 
--- how many lines of unknown keys are told with a tracefile's end
-abbrev pub unknown_told : Option SummaryData → ℕ
-unknown_told None = 0
-unknown_told (Some held) = held.skipped
-
--- a strict call is told what the text holds, and another call isn't
-abbrev pub IsToldFor : Strictness → Result (Option SummaryData) ReadFault → Type 0
-IsToldFor Lenient (Ok None) = Unit {0}
-IsToldFor Lenient (Ok (Some held)) = ⊥
-IsToldFor Strict (Ok None) = ⊥
-IsToldFor Strict (Ok (Some held)) = Unit {0}
-IsToldFor strictness (Err fault) = Unit {0}
+-- the doubtful lines are told that such a call asks for
+abbrev pub IsToldFor : Strictness → Result Told Refusal → Type 0
+IsToldFor strictness (Ok told) = TellsDoubts (kinds_for strictness) told
+IsToldFor strictness (Err refusal) = Unit {0}
 
 -- the note of a tracefile with these first bytes and these counts in all, to which these rules were applied, and with this end
-abbrev pub note_at : (first : List ℕ) → Counts → (used : List Bool) → Result (Option SummaryData) ReadFault → Note
-note_at first counts used (Ok told) = note_of first counts (unknown_told told) used
-note_at first counts used (Err fault) = Faulty fault
+abbrev pub note_at : (first : List ℕ) → Counts → (used : List Bool) → Result Told Refusal → Note
+note_at first counts used (Ok told) = note_of first counts told used
+note_at first counts used (Err refusal) = faulty refusal
 
 -- the note of an opened tracefile whose rest is read as these submissions up to this end
-abbrev pub note_after : {S : Type 0} → List RuleData → Opened S → List SubmissionData → Result (Option SummaryData) ReadFault → Note
+abbrev pub note_after : {S : Type 0} → List RuleData → Opened S → List SubmissionData → Result Told Refusal → Note
 note_after rules opened read end = note_at opened.first (counts_with opened.counts read) (used_with rules opened.used read) end
 
 -- what may come of the rest of an opened tracefile: it can't be read, or it is read up to an end, and gets its new names
 abbrev pub MayGiveOpened : {S : Type 0} → (left : S → Option (List ℕ)) → (failed_reads : S → ℕ) → NamesData → Opened S → OutcomeData Note → Type 0
 MayGiveOpened left failed_reads new opened outcome =
     ((outcome.fault ≡ Some (Unreadable reasons.Other)) × MayFailFrom left failed_reads opened.rest.source)
-    ⊎ ((read : List SubmissionData) × (end : Result (Option SummaryData) ReadFault) × MayGive left opened.rest read end
+    ⊎ ((read : List SubmissionData) × (end : Result Told Refusal) × MayGive left opened.rest read end
     × (outcome ≡ record { read = map (named new) read; fault = Some (note_after new.rules opened read end) }))
 
 -- what may come of a file that was opened before
@@ -166,7 +158,7 @@ of_stop pieces stops.Memory = late.Memory
 
 -- a fault of a piece, and of reading blocks
 abbrev pub of_piece : PieceFault → Stop
-of_piece (pieces.Refused fault) = stops.Ended (Faulty fault)
+of_piece (pieces.Refused refusal) = stops.Ended (faulty refusal)
 of_piece pieces.Unreadable = stops.Ended (Unreadable reasons.Other)
 of_piece pieces.Memory = stops.Memory
 

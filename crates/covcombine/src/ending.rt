@@ -23,6 +23,7 @@ use crate::work::Work;
 use covbook::Answer;
 use covcommand::{Overview, PageTexts, Strictness, TotalsForm};
 use covdata::{Bytes, Memory};
+use covlarge::FirstDoubt;
 use covlimit::shortfall_lines;
 use covlist::{list_json, list_table, matches_a_file, summary_json, takes_a_file};
 use covpaths::PathRule;
@@ -312,27 +313,27 @@ fn put_warning(
     ensures { OnOk result (lines.new ≡ lines.old ++ warning_of strictness name.now note.now) }
 {
     match (strictness, note) {
-        (Strictness::Lenient, Note::Merged { misfits, .. }) => {
-            put_if_misfits(b"warning: ", strictness, name, *misfits, lines)
+        (Strictness::Lenient, Note::Merged { misfits, first, .. }) => {
+            put_if_misfits(b"warning: ", name, *misfits, first, lines)
         }
         _ => Ok(()),
     }
 }
 
-/// Appends the line about lines of the file called `name` that don't fit, if there are any.
+/// Appends the line about the lines of the file called `name` that don't fit, if there are any.
 fn put_if_misfits(
     front: &[u8],
-    strictness: Strictness,
     name: &str,
     misfits: u64,
+    first: &Option<FirstDoubt>,
     lines: &mut Bytes,
 ) -> Result<(), Memory>
-    ensures { OnOk result (lines.new ≡ lines.old ++ misfits_told front.now strictness name.now misfits) }
+    ensures { OnOk result (lines.new ≡ lines.old ++ misfits_told front.now name.now misfits first.now) }
 {
-    if misfits == 0 {
-        return Ok(());
+    match first {
+        Some(first) => put_misfits(front, name.as_bytes(), misfits, first, lines),
+        None => Ok(()),
     }
-    put_misfits(front, strictness, name.as_bytes(), misfits, lines)
 }
 
 /// Appends a line for each of the files called `files` that fails the call.
@@ -370,10 +371,10 @@ fn put_refusal(
         (Note::NoRecord { begins, sections }, _) => {
             put_no_record(name.as_bytes(), begins.get(), *sections, lines)
         }
-        (Note::Faulty(fault), _) => put_fault(name.as_bytes(), *fault, lines),
+        (Note::Faulty { fault, line }, _) => put_fault(name.as_bytes(), *fault, line, lines),
         (Note::Merged { .. }, Strictness::Lenient) => Ok(()),
-        (Note::Merged { misfits, .. }, Strictness::Strict) => {
-            put_if_misfits(b"", strictness, name, *misfits, lines)
+        (Note::Merged { misfits, first, .. }, Strictness::Strict) => {
+            put_if_misfits(b"", name, *misfits, first, lines)
         }
     }
 }

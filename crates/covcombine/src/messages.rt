@@ -2,17 +2,22 @@
 
 ghost use Rattle.std.specs.Prelude.{◌≡◌, ◌++◌, None, OnOk, codes, decimal, option_map};
 ghost use Rattle.covlist.specs.Shown.{shown_name};
-ghost use Rattle.covcombine.specs.Messages.{begins_words, but_pages, but_written, call_fault_line, checksum_words, clash_line, counted, cut_line, error_line, expected_line, fault_line, line_fault_words as words_of_line_fault, misfit_words as words_of_misfits, misfits_line, more_clashes, no_record_line, no_record_words, none_left_line, option_name, packed_words, pages_lines, quoted, quoted_byte, read_words as words_of_read, reason_hint as hint_of_reason, rule_fault_words as words_of_rule_fault, strange_words, system_words as words_of_system, told, told_at, unmatched_line, unreadable_line, unused_line, unwritten_line, write_words as words_of_write};
+ghost use Rattle.covcombine.specs.Messages.{bad_line_told, begins_words, but_pages, but_written, call_fault_line, checksum_words, clash_line, counted, cut_line, error_line, expected_line, fault_line, field_words as words_of_field, lacking_words, line_fault_words as words_of_line_fault, many_counted, misfits_line, more_clashes, more_lines, no_record_line, no_record_words, none_left_line, one_counted, option_name, packed_words, pages_lines, quoted, quoted_byte, read_words as words_of_read, reason_hint as hint_of_reason, rule_fault_words as words_of_rule_fault, shown_start, strange_words, system_words as words_of_system, told, told_at, unmatched_line, unreadable_line, unused_line, unwritten_line, why_words, write_words as words_of_write};
 ghost use Rattle.covcombine.specs.View.{clash_data};
 
 use crate::call_fault::{CallFault, CallOption};
+use crate::note::BadLine;
 use crate::stranger::Stranger;
-use covcommand::Strictness;
-use covdata::{Bytes, LineFault, Memory, ReadFault};
+use covdata::{Bytes, LineFault, Memory, ReadFault, TotalKind};
+use covexplain::Field;
+use covlarge::{FirstDoubt, Why};
 use covlist::put_shown_name;
 use covpages::PagesFault;
 use covpaths::RuleFault;
 use covworld::Reason;
+
+/// How many bytes of a line are shown.
+const MAX_SHOWN: usize = 80;
 
 /// Two different checksums of a line of a source file: the one that was held, and the one that was given later.
 #[derive(Clone, Copy)]
@@ -218,12 +223,17 @@ fn put_begins(begins: &[u8], lines: &mut Bytes) -> Result<(), Memory>
     lines.append(b"\"")
 }
 
-/// Appends the line about an error of the file called `name`.
-pub(crate) fn put_fault(name: &[u8], fault: ReadFault, lines: &mut Bytes) -> Result<(), Memory>
-    ensures { OnOk result (lines.new ≡ lines.old ++ fault_line name.now fault) }
+/// Appends the line about an error of the file called `name`. `line` is the line that is invalid by itself, if there is one.
+pub(crate) fn put_fault(
+    name: &[u8],
+    fault: ReadFault,
+    line: &Option<BadLine>,
+    lines: &mut Bytes,
+) -> Result<(), Memory>
+    ensures { OnOk result (lines.new ≡ lines.old ++ fault_line name.now fault line.now) }
 {
     match fault {
-        ReadFault::Line { at, fault } => put_told_at(name, at, line_fault_words(fault), lines),
+        ReadFault::Line { at, fault } => put_bad_line(name, at, fault, line, lines),
         ReadFault::Outside { at } => put_told_at(
             name,
             at,
@@ -256,44 +266,150 @@ pub(crate) fn put_fault(name: &[u8], fault: ReadFault, lines: &mut Bytes) -> Res
     }
 }
 
-/// What is wrong with a line by itself.
+/// Appends the line about line `at` of the file called `name`, which is invalid by itself.
+fn put_bad_line(
+    name: &[u8],
+    at: u64,
+    fault: LineFault,
+    line: &Option<BadLine>,
+    lines: &mut Bytes,
+) -> Result<(), Memory>
+    ensures { OnOk result (lines.new ≡ lines.old ++ bad_line_told name.now at fault line.now) }
+{
+    put_place(name, at, lines)?;
+    match (fault, line) {
+        (LineFault::EmptyPath, _) | (_, None) => lines.append(line_fault_words(fault))?,
+        (LineFault::BadLine, Some(line)) => put_lacking(line, lines)?,
+        (LineFault::NumberTooLarge, Some(line)) => {
+            put_start(line.start.get(), lines)?;
+            lines.append(b": a number is too large")?;
+        }
+    }
+    lines.append(b"\n")
+}
+
+/// What is wrong with a line by itself that isn't shown.
 fn line_fault_words(fault: LineFault) -> &'static [u8]
     ensures { result.now ≡ words_of_line_fault fault }
 {
     match fault {
-        LineFault::BadLine => b"the fields don't fit the line's key: was the file cut here?",
+        LineFault::BadLine => b"the fields don't fit the line's key",
         LineFault::NumberTooLarge => b"a number is too large",
         LineFault::EmptyPath => b"no source file is named",
     }
 }
 
-/// Appends the line about `number` lines of the file called `name` that don't fit. `front` comes before the words.
+/// Appends the line, and what was expected in it.
+fn put_lacking(line: &BadLine, lines: &mut Bytes) -> Result<(), Memory>
+    ensures { OnOk result (lines.new ≡ lines.old ++ lacking_words line.now) }
+{
+    put_start(line.start.get(), lines)?;
+    lines.append(b": ")?;
+    lines.append(field_words(line.lacking))?;
+    lines.append(b" was expected")
+}
+
+/// Appends the beginning of a line: its first 80 bytes, and two dots if `start` has more.
+fn put_start(start: &[u8], lines: &mut Bytes) -> Result<(), Memory>
+    ensures { OnOk result (lines.new ≡ lines.old ++ shown_start start.now) }
+{
+    if start.len() <= MAX_SHOWN {
+        return put_shown_name(start, lines);
+    }
+    put_shown_name(&start[..MAX_SHOWN], lines)?;
+    lines.append(b"..")
+}
+
+/// What a field is; for `None` what any field is.
+fn field_words(field: Option<Field>) -> &'static [u8]
+    ensures { result.now ≡ words_of_field field }
+{
+    match field {
+        Some(Field::LineNumber) => b"a line number",
+        Some(Field::EndLine) => b"an end line",
+        Some(Field::Count) => b"an execution count",
+        Some(Field::Checksum) => b"a checksum",
+        Some(Field::Name) => b"a function's name",
+        Some(Field::Index) => b"an index",
+        Some(Field::Block) => b"a block number",
+        Some(Field::Branch) => b"a branch",
+        Some(Field::Taken) => b"a count or -",
+        Some(Field::Total) => b"a number",
+        None => b"another field",
+    }
+}
+
+/// Appends the line about so many `misfits`, lines of the file called `name` that don't fit, of which `first` is the first. `front`
+/// comes before the words.
 pub(crate) fn put_misfits(
     front: &[u8],
-    strictness: Strictness,
     name: &[u8],
-    number: u64,
+    misfits: u64,
+    first: &FirstDoubt,
     lines: &mut Bytes,
 ) -> Result<(), Memory>
-    ensures { OnOk result (lines.new ≡ lines.old ++ misfits_line front.now strictness name.now number) }
+    ensures { OnOk result (lines.new ≡ lines.old ++ misfits_line front.now name.now misfits first.now) }
 {
-    put_name(name, lines)?;
+    put_place(name, first.at, lines)?;
     lines.append(front)?;
-    put_counted(number, b"line doesn't fit", b"lines don't fit", lines)?;
-    lines.append(misfit_words(strictness))?;
+    put_start(first.start.get(), lines)?;
+    put_why(first.why, lines)?;
+    put_more_lines(misfits.saturating_sub(1), lines)?;
     lines.append(b"\n")
 }
 
-/// Which lines don't fit.
-fn misfit_words(strictness: Strictness) -> &'static [u8]
-    ensures { result.now ≡ words_of_misfits strictness }
+/// Appends why a line doesn't fit.
+fn put_why(why: Why, lines: &mut Bytes) -> Result<(), Memory>
+    ensures { OnOk result (lines.new ≡ lines.old ++ why_words why) }
 {
-    match strictness {
-        Strictness::Lenient => b": wrong totals, or counts of functions that start nowhere",
-        Strictness::Strict => {
-            b": wrong totals, counts of functions that start nowhere, or unknown keys"
+    match why {
+        Why::Total { kind, own } => {
+            lines.append(b", but the section has ")?;
+            put_counted(own, one_of(kind), many_of(kind), lines)
         }
+        Why::Unstarted => lines.append(b", but the section has no FN line of this function"),
+        Why::Unknown => lines.append(b": the key is unknown"),
     }
+}
+
+/// One of what a total counts.
+fn one_of(kind: TotalKind) -> &'static [u8]
+    ensures { result.now ≡ one_counted kind }
+{
+    match kind {
+        TotalKind::LineFound => b"line",
+        TotalKind::LineHit => b"hit line",
+        TotalKind::FuncFound => b"function",
+        TotalKind::FuncHit => b"hit function",
+        TotalKind::BranchFound => b"branch",
+        TotalKind::BranchHit => b"hit branch",
+    }
+}
+
+/// Several of what a total counts.
+fn many_of(kind: TotalKind) -> &'static [u8]
+    ensures { result.now ≡ many_counted kind }
+{
+    match kind {
+        TotalKind::LineFound => b"lines",
+        TotalKind::LineHit => b"hit lines",
+        TotalKind::FuncFound => b"functions",
+        TotalKind::FuncHit => b"hit functions",
+        TotalKind::BranchFound => b"branches",
+        TotalKind::BranchHit => b"hit branches",
+    }
+}
+
+/// Appends how many more lines don't fit, if some don't.
+fn put_more_lines(more: u64, lines: &mut Bytes) -> Result<(), Memory>
+    ensures { OnOk result (lines.new ≡ lines.old ++ more_lines more) }
+{
+    if more == 0 {
+        return Ok(());
+    }
+    lines.append(b" (and ")?;
+    put_counted(more, b"more such line", b"more such lines", lines)?;
+    lines.append(b")")
 }
 
 /// Appends the line about a pattern of `option` that matches no source file. `front` comes before the words.

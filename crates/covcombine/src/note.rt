@@ -5,17 +5,18 @@ ghost use Rattle.covcombine.specs.Notes.{note_of as note_with};
 
 use crate::stranger::{Stranger, first_line};
 use covdata::{Bytes, Memory, ReadFault};
+use covexplain::{Field, lacking};
+use covlarge::{FirstDoubt, KEPT_BYTES, Told};
 use covpacked::PackedSubmission;
 use covpaths::UsedRules;
 use covworld::Reason;
 use std::alloc::Global;
 
-/// How many sections, items and inconsistent lines (`odd`) the chunks of a tracefile have so far. Numbers saturate at 2^64 - 1.
+/// How many sections and items the chunks of a tracefile have so far. Numbers saturate at 2^64 - 1.
 #[derive(Clone, Copy)]
 pub(crate) struct Counts {
     pub(crate) sections: u64,
     pub(crate) items: u64,
-    pub(crate) odd: u64,
 }
 
 impl Counts {
@@ -29,7 +30,6 @@ impl Counts {
         Counts {
             sections: 0,
             items: 0,
-            odd: 0,
         }
     }
 
@@ -40,7 +40,6 @@ impl Counts {
         Counts {
             sections: self.sections.saturating_add(submission.sections()),
             items: self.items.saturating_add(submission.items()),
-            odd: self.odd.saturating_add(submission.odd()),
         }
     }
 }
@@ -60,12 +59,44 @@ pub(crate) enum Note {
     /// The first bytes are those of another kind of file.
     Strange(Stranger),
     /// The tracefile has no item. `begins` is its first line, as far as the line was looked at.
-    NoRecord { begins: Bytes, sections: u64 },
-    /// The tracefile is invalid.
-    Faulty(ReadFault),
-    /// The tracefile was merged. `misfits` is the number of lines that don't fit, and `used` are the rules for paths that were applied
-    /// to its source files.
-    Merged { misfits: u64, used: UsedRules },
+    NoRecord {
+        begins: Bytes,
+        sections: u64,
+    },
+    /// The tracefile is invalid. `line` is the line that is invalid by itself, if there is one.
+    Faulty {
+        fault: ReadFault,
+        line: Option<BadLine>,
+    },
+    /// The tracefile was merged. `misfits` is the number of lines that don't fit, `first` is the first of them, and `used` are the rules
+    /// for paths that were applied to its source files.
+    Merged {
+        misfits: u64,
+        first: Option<FirstDoubt>,
+        used: UsedRules,
+    },
+}
+
+/// An invalid line: its first bytes, and the field that it lacks, if it lacks one.
+#[derive(Drop)]
+pub(crate) struct BadLine {
+    pub(crate) start: Bytes,
+    pub(crate) lacking: Option<Field>,
+}
+
+impl BadLine {
+    ghost use Rattle.std.specs.Prelude.{◌≡◌};
+    ghost use Rattle.covcombine.specs.Notes.{bad_line};
+
+    /// The part of `line` that is told, and the field that it lacks.
+    pub(crate) fn of(line: Bytes) -> BadLine
+        ensures { result ≡ bad_line line }
+    {
+        let lacking = lacking(line.get());
+        let mut start = line;
+        start.truncate(KEPT_BYTES);
+        BadLine { start, lacking }
+    }
 }
 
 impl Note {
@@ -78,7 +109,7 @@ impl Note {
     {
         match self {
             Note::Merged { .. } => true,
-            Note::Unreadable(_) | Note::Strange(_) | Note::NoRecord { .. } | Note::Faulty(_) =>
+            Note::Unreadable(_) | Note::Strange(_) | Note::NoRecord { .. } | Note::Faulty { .. } =>
                 false,
         }
     }
@@ -89,7 +120,7 @@ impl Note {
     {
         match self {
             Note::Merged { used, .. } => used.get(rule),
-            Note::Unreadable(_) | Note::Strange(_) | Note::NoRecord { .. } | Note::Faulty(_) =>
+            Note::Unreadable(_) | Note::Strange(_) | Note::NoRecord { .. } | Note::Faulty { .. } =>
                 false,
         }
     }
@@ -100,22 +131,22 @@ impl Note {
     {
         match self {
             Note::Unreadable(_) => 1,
-            Note::Faulty(_) => 4,
+            Note::Faulty { .. } => 4,
             Note::Strange(_) | Note::NoRecord { .. } | Note::Merged { .. } => 5,
         }
     }
 }
 
-/// The note of a tracefile that was read to its end. `first` are its first bytes, `unknown` is the number of its lines of unknown keys,
-/// and `used` are the rules for paths that were applied.
+/// The note of a tracefile that was read to its end. `first` are its first bytes, `told` has its doubtful lines, and `used` are the
+/// rules for paths that were applied.
 pub(crate) fn note_of(
     alloc: Global,
     first: &[u8],
     counts: Counts,
-    unknown: u64,
+    told: Told,
     used: UsedRules,
 ) -> Result<Note, Memory>
-    ensures { IfOk result (λ note. note ≡ note_with first.now counts unknown used) }
+    ensures { IfOk result (λ note. note ≡ note_with first.now counts told used) }
 {
     if counts.items == 0 {
         return Ok(Note::NoRecord {
@@ -123,8 +154,16 @@ pub(crate) fn note_of(
             sections: counts.sections,
         });
     }
-    Ok(Note::Merged {
-        misfits: counts.odd.saturating_add(unknown),
-        used,
-    })
+    match told {
+        Told::Doubts(doubts) => Ok(Note::Merged {
+            misfits: doubts.number,
+            first: doubts.first,
+            used,
+        }),
+        Told::Nothing | Told::Summary(_) => Ok(Note::Merged {
+            misfits: 0,
+            first: None,
+            used,
+        }),
+    }
 }

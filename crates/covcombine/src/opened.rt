@@ -1,17 +1,17 @@
 //! Opened tracefiles, and how far a file is read.
 
-ghost use Rattle.std.specs.Prelude.{◌≡◌, ◌≤◌, ◌++◌, ◌^◌, ℕ, List, Option, Result, length, option_map, IfOk, IfErr, OnOk};
+ghost use Rattle.std.specs.Prelude.{◌≡◌, ◌≤◌, ◌++◌, ◌^◌, List, Result, length, option_map, IfOk, IfErr, OnOk};
 ghost use Rattle.covdata.specs.Row.{SubmissionData};
-ghost use Rattle.covdata.specs.declared.fault.ReadFault.{ReadFault as Fault};
 ghost use Rattle.covdata.specs.declared.version.LcovVersion.TheVariants.{Two};
 ghost use Rattle.covlarge.specs.Large.{MayBeReadAs, max_pieces};
 ghost use Rattle.covlarge.specs.State.{MayGive};
-ghost use Rattle.covlarge.specs.Summary.{SummaryData};
+ghost use Rattle.covlarge.specs.declared.asked.Told.{Told as ToldData};
+ghost use Rattle.covlarge.specs.declared.fault.Refusal.{Refusal as RefusalData};
 ghost use Rattle.covpaths.specs.Names.{named, used_after};
 ghost use Rattle.covstream.specs.Blocks.{HasReadAtMost, IsReadFault};
 ghost use Rattle.covworld.specs.Folder.{folder_data};
 ghost use Rattle.covcombine.specs.Notes.{IsOfFile};
-ghost use Rattle.covcombine.specs.Steps.{EndsWith, IsOpenedFor, IsToldFor, unknown_told};
+ghost use Rattle.covcombine.specs.Steps.{EndsWith, IsOpenedFor, IsToldFor};
 ghost use Rattle.covcombine.specs.Strangers.{first_bytes};
 ghost use Rattle.covcombine.specs.declared.opened.Stage.TheVariants.{Unopened};
 
@@ -19,9 +19,9 @@ use crate::note::{Counts, Note, note_of};
 use crate::stop::Stop;
 use crate::stranger::{FIRST_BYTES, strange_of};
 use covbook::PackedRef;
-use covcommand::{LcovVersion, Strictness};
+use covcommand::Strictness;
 use covdata::{Bytes, Memory};
-use covlarge::{Held, LargeTracefile, NextPiece};
+use covlarge::{DoubtKinds, LargeTracefile, NextPiece};
 use covpacked::PackedSubmission;
 use covpaths::{NewNames, UsedRules, rename};
 use covstream::{BlockFault, Source, read_at_most};
@@ -83,10 +83,10 @@ impl<S: Source + Drop> Opened<S> {
                     }),
                 ))
             }
-            NextPiece::Last(submission, held) => {
+            NextPiece::Last(submission, told) => {
                 let counts = counts.and(&submission);
                 let given = share(alloc, new_names, submission, &mut used)?;
-                let note = note_of(alloc, first.get(), counts, unknown_in(&held), used)?;
+                let note = note_of(alloc, first.get(), counts, told, used)?;
                 Ok((given, Stage::Ended(note)))
             }
         }
@@ -106,16 +106,6 @@ fn share(
 {
     let submission = rename(alloc, new_names, submission, used)?;
     Ok(Given::packed(PackedRef::of(alloc, submission)?))
-}
-
-/// The number of lines of unknown keys; 0 without a summary.
-fn unknown_in(held: &Option<Held>) -> u64
-    ensures { result ≡ unknown_told held.now }
-{
-    match held {
-        Some(held) => held.summary().skipped,
-        None => 0,
-    }
 }
 
 /// Opens the file called `name`, and looks at its first bytes. A file that is no tracefile ends with its note.
@@ -165,8 +155,7 @@ fn read_first<S: Source>(alloc: Global, source: &mut S) -> Result<Bytes, BlockFa
     Ok(first)
 }
 
-/// Opens a tracefile of LCOV 1 or 2 whose first bytes, `first`, were read from `source`. Only a strict call collects a summary, which
-/// has the number of lines of unknown keys.
+/// Opens a tracefile of LCOV 1 or 2 whose first bytes, `first`, were read from `source`. Only a strict call looks for unknown keys.
 fn begin<S: Source + Drop>(
     alloc: Global,
     strictness: Strictness,
@@ -175,14 +164,15 @@ fn begin<S: Source + Drop>(
 ) -> LargeTracefile<S>
     requires reads { S.reads source ≤ 2 ^ 28 }
     requires failed_reads { S.failed_reads source ≡ 0 }
-    ensures whole { (read : List SubmissionData) (end : Result (Option SummaryData) Fault) → MayGive S.left result read end
+    ensures whole { (read : List SubmissionData) (end : Result ToldData RefusalData) → MayGive S.left result read end
         → MayBeReadAs Two (option_map (λ more. first ++ more) (S.left source)) read end }
-    ensures told { (read : List SubmissionData) (end : Result (Option SummaryData) Fault) → MayGive S.left result read end → IsToldFor strictness end }
+    ensures told { (read : List SubmissionData) (end : Result ToldData RefusalData) → MayGive S.left result read end → IsToldFor strictness end }
     ensures source { result.source ≡ source }
     ensures left { result.left ≡ max_pieces }
 {
-    match strictness {
-        Strictness::Lenient => LargeTracefile::new_after(alloc, LcovVersion::Two, first, source),
-        Strictness::Strict => LargeTracefile::summed_after(alloc, LcovVersion::Two, first, source),
-    }
+    let kinds = match strictness {
+        Strictness::Lenient => DoubtKinds::Misfits,
+        Strictness::Strict => DoubtKinds::MisfitsAndUnknown,
+    };
+    LargeTracefile::doubted_after(alloc, kinds, first, source)
 }

@@ -1,8 +1,8 @@
 //! Why a file gives no further chunk.
 
-use crate::note::{FileEnd, Note};
+use crate::note::{BadLine, FileEnd, Note};
 use covdata::Memory;
-use covlarge::PieceFault;
+use covlarge::{PieceFault, Refusal};
 use covstream::BlockFault;
 use covworkers::LateFault;
 use covworld::Reason;
@@ -65,9 +65,26 @@ impl From<PieceFault> for Stop {
 
     fn from(fault: PieceFault) -> Stop {
         match fault {
-            PieceFault::Refused(fault) => Stop::Ended(Note::Faulty(fault)),
+            PieceFault::Refused(refusal) => Stop::Ended(faulty(refusal)),
             PieceFault::Unreadable => Stop::Ended(Note::Unreadable(Reason::Other)),
             PieceFault::Memory => Stop::Memory,
         }
+    }
+}
+
+ghost use Rattle.std.specs.Prelude.{◌≡◌};
+ghost use Rattle.covcombine.specs.Notes.{faulty as faulty_note};
+
+/// The note of a tracefile that is invalid for this reason.
+fn faulty(refusal: Refusal) -> Note
+    ensures { result ≡ faulty_note refusal }
+{
+    let line = match refusal.line {
+        Some(line) => Some(BadLine::of(line)),
+        None => None,
+    };
+    Note::Faulty {
+        fault: refusal.fault,
+        line,
     }
 }

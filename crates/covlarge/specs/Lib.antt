@@ -1,5 +1,7 @@
 pub mod Version
 pub mod Summary
+pub mod Doubts
+pub mod Asked
 pub mod HeldView
 pub mod Large
 pub mod StateData

@@ -1,12 +1,17 @@
 -- Private steps: how one piece is read after others.
-use Rattle.std.specs.Prelude.{◌≡◌, ℕ, List, ◌++◌, Option, Result, Ok, Err}
+use Rattle.std.specs.Prelude.{◌≡◌, ℕ, List, ◌++◌, Result, Ok, Err}
 use Rattle.covdata.specs.declared.version.LcovVersion.{LcovVersion}
 use Rattle.covdata.specs.declared.version.LcovVersion.TheVariants.{One, Two}
-use Rattle.covlarge.specs.Summary.{HoldsOnIfTold, SummaryData}
-use Rattle.covlarge.specs.Version.{IsOutcomeOf, IsSkippedOf}
+use Rattle.covlarge.specs.Asked.{AskedOn, ToldOn, version_of}
+use Rattle.covlarge.specs.Large.{faulty_line}
+use Rattle.covlarge.specs.Version.{IsOutcomeOf}
+use Rattle.covlarge.specs.declared.asked.Asked.{Asked}
+use Rattle.covlarge.specs.declared.asked.Told.{Told}
 use Rattle.covlarge.specs.declared.fault.PieceFault.{PieceFault}
 use Rattle.covlarge.specs.declared.fault.PieceFault.TheVariants.{Refused, Unreadable, Memory}
+use Rattle.covlarge.specs.declared.fault.Refusal.{Refusal}
 use Rattle.covlcov2.specs.Outcome as lcov2
+use Rattle.covline.specs.Lines.{lines_of}
 use Rattle.covdata.specs.Row.{SubmissionData}
 use Rattle.covpieces.specs.Pieces.{CarriedData, told}
 use Rattle.covread.specs.Outcome as trace
@@ -25,22 +30,24 @@ abbrev pub of_block : BlockFault → PieceFault
 of_block blocks.Unreadable = Unreadable
 of_block blocks.Memory = Memory
 
--- a reader's fault in a piece, as that of the whole tracefile
-abbrev pub IsFaultOf : CarriedData → ReadFault → PieceFault → Type 0
-IsFaultOf carried fault (Refused all) = (fault ≡ faults.Memory → ⊥) × (all ≡ told carried fault)
-IsFaultOf carried fault Unreadable = ⊥
-IsFaultOf carried fault Memory = fault ≡ faults.Memory
+-- a reader's fault in the text of a piece, as that of the whole tracefile, or memory ran out
+abbrev pub IsFaultOf : CarriedData → (text : List ℕ) → ReadFault → PieceFault → Type 0
+IsFaultOf carried text fault (Refused all) =
+    (fault ≡ faults.Memory → ⊥) × (all.fault ≡ told carried fault) × (all.line ≡ faulty_line (lines_of text) fault)
+IsFaultOf carried text fault Unreadable = ⊥
+IsFaultOf carried text fault Memory = Unit {0}
 
--- the text of a piece is refused for this fault
-pub record IsRefused (version : LcovVersion) (carried : CarriedData) (text : List ℕ) (fault : ReadFault) : Type 0 where
+-- the text of a piece is refused for this reason
+pub record IsRefused (version : LcovVersion) (carried : CarriedData) (text : List ℕ) (refusal : Refusal) : Type 0 where
   pub found : ReadFault
   pub isnt_long : found ≡ faults.TooLong → ⊥
   pub outcome : IsOutcomeOf version text (Err found)
-  pub is : fault ≡ told carried found
+  pub is : refusal.fault ≡ told carried found
+  pub line : refusal.line ≡ faulty_line (lines_of text) found
 
 -- why the text of a piece isn't read
 abbrev pub IsUnread : LcovVersion → CarriedData → (text : List ℕ) → PieceFault → Type 0
-IsUnread version carried text (Refused fault) = IsRefused version carried text fault
+IsUnread version carried text (Refused refusal) = IsRefused version carried text refusal
 IsUnread version carried text Unreadable = ⊥
 IsUnread version carried text Memory = Unit {0}
 
@@ -49,14 +56,14 @@ abbrev pub IsReadAs : LcovVersion → CarriedData → (text : List ℕ) → Resu
 IsReadAs version carried text (Ok submission) = IsOutcomeOf version text (Ok submission)
 IsReadAs version carried text (Err fault) = IsUnread version carried text fault
 
--- what a piece behind its front is read as, and what the pieces hold with it
-abbrev pub IsPieceRead : LcovVersion → CarriedData → (held : Option SummaryData) → (front piece : List ℕ) → (after : Option SummaryData) → Result SubmissionData PieceFault → Type 0
-IsPieceRead version carried held front piece after (Ok submission) =
-    IsOutcomeOf version (front ++ piece) (Ok submission) × HoldsOnIfTold (IsSkippedOf version) carried.lines held piece submission after
-IsPieceRead version carried held front piece after (Err fault) = IsUnread version carried (front ++ piece) fault
+-- what a piece behind its front is read as, and what the caller gets of the pieces with it
+abbrev pub IsPieceRead : Asked → CarriedData → (front piece : List ℕ) → (after : Asked) → Result SubmissionData PieceFault → Type 0
+IsPieceRead before carried front piece after (Ok submission) =
+    IsOutcomeOf (version_of before) (front ++ piece) (Ok submission) × AskedOn carried.lines before piece submission after
+IsPieceRead before carried front piece after (Err fault) = IsUnread (version_of before) carried (front ++ piece) fault
 
 -- the same for the last piece
-abbrev pub IsLastPiece : LcovVersion → CarriedData → (held : Option SummaryData) → (front piece : List ℕ) → Result (SubmissionData × Option SummaryData) PieceFault → Type 0
-IsLastPiece version carried held front piece (Ok read) =
-    IsOutcomeOf version (front ++ piece) (Ok read.0) × HoldsOnIfTold (IsSkippedOf version) carried.lines held piece read.0 read.1
-IsLastPiece version carried held front piece (Err fault) = IsUnread version carried (front ++ piece) fault
+abbrev pub IsLastPiece : Asked → CarriedData → (front piece : List ℕ) → Result (SubmissionData × Told) PieceFault → Type 0
+IsLastPiece before carried front piece (Ok read) =
+    IsOutcomeOf (version_of before) (front ++ piece) (Ok read.0) × ToldOn carried.lines before piece read.0 read.1
+IsLastPiece before carried front piece (Err fault) = IsUnread (version_of before) carried (front ++ piece) fault

@@ -1,15 +1,13 @@
 -- A tracefile of which some pieces were read.
-use Rattle.std.specs.Prelude.{◌≡◌, ◌≤◌, ◌+◌, ◌*◌, ◌^◌, ℕ, List, Option}
-use Rattle.covdata.specs.declared.version.LcovVersion.{LcovVersion}
-use Rattle.covlarge.specs.Summary.{SummaryData}
+use Rattle.std.specs.Prelude.{◌≡◌, ◌≤◌, ◌+◌, ◌*◌, ◌^◌, ℕ, List}
+use Rattle.covlarge.specs.declared.asked.Asked.{Asked}
 use Rattle.covpieces.specs.Pieces.{CarriedData}
 
--- a tracefile of which some pieces were read: its version; what goes over to the next piece; what the pieces hold, if that is asked
--- for; how many more pieces may be read; the bytes that were read and aren't in a piece yet; and the source of the bytes after them
+-- a tracefile of which some pieces were read: what the caller asks for, with what the pieces have of it; what goes over to the next
+-- piece; how many more pieces may be read; the bytes that were read and aren't in a piece yet; and the source of the bytes after them
 pub record StateData (S : Type 0) : Type 0 where
-  pub version : LcovVersion
+  pub asked : Asked
   pub carried : CarriedData
-  pub held : Option SummaryData
   pub left : ℕ
   pub rest : List ℕ
   pub source : S

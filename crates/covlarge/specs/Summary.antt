@@ -70,14 +70,3 @@ pub record HoldsOn (is_skipped : List ℕ → Type 0) (number : ℕ) (before : S
   pub those : AreAllThat (λ (l : ℕ × List ℕ). is_skipped l.1) (enumerate_from (number + 1) (lines_of text)) lines
   pub skipped : after.skipped ≡ told_number (before.skipped + length lines)
   pub first : after.first ≡ or_first before.first (first_of lines)
-
--- the same for a summary that is made only if it is asked for
-abbrev pub HoldsOnIfTold : (List ℕ → Type 0) → ℕ → Option SummaryData → List ℕ → SubmissionData → Option SummaryData → Type 0
-HoldsOnIfTold is_skipped number None text submission None = Unit {0}
-HoldsOnIfTold is_skipped number None text submission (Some after) = ⊥
-HoldsOnIfTold is_skipped number (Some before) text submission None = ⊥
-HoldsOnIfTold is_skipped number (Some before) text submission (Some after) = HoldsOn is_skipped number before text submission after
-
-abbrev pub HoldsAllIfTold : (List ℕ → Type 0) → List ℕ → SubmissionData → Option SummaryData → Type 0
-HoldsAllIfTold is_skipped text submission None = Unit {0}
-HoldsAllIfTold is_skipped text submission (Some summary) = HoldsAll is_skipped text submission summary

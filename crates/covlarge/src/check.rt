@@ -1,8 +1,11 @@
 //! Checks a whole tracefile.
 
-ghost use Rattle.std.specs.Prelude.{◌≡◌, Some, IsSome};
+ghost use Rattle.std.specs.Prelude.{◌≡◌};
+ghost use Rattle.covlarge.specs.Asked.{IsSummary};
+ghost use Rattle.covlarge.specs.declared.asked.Told.TheVariants.{Summary};
 ghost use Rattle.covlarge.specs.State.{IsChecked};
 
+use crate::asked::Told;
 use crate::fault::PieceFault;
 use crate::held::Held;
 use crate::large_tracefile::{LargeTracefile, NextPiece};
@@ -24,18 +27,18 @@ pub fn check_large<S: Source + Drop>(
     loop {
         match left.next_piece(alloc)? {
             NextPiece::More(_, rest) => left = rest,
-            NextPiece::Last(_, held) => return Ok(told(held)),
+            NextPiece::Last(_, told) => return Ok(summary_in(told)),
         }
     }
 }
 
 /// Unwraps the summary, which `requires` guarantees.
-fn told(held: Option<Held>) -> Held
-    requires { IsSome held }
-    ensures { Some result ≡ held }
+fn summary_in(told: Told) -> Held
+    requires { IsSummary told }
+    ensures { Summary result ≡ told }
 {
-    match held {
-        Some(held) => held,
-        None => unreachable!(),
+    match told {
+        Told::Summary(held) => held,
+        Told::Nothing | Told::Doubts(_) => unreachable!(),
     }
 }

@@ -1,18 +1,27 @@
 //! A tracefile that is read in chunks.
 
-ghost use Rattle.std.specs.Prelude.{◌≡◌, ◌≤◌, ◌^◌, ℕ, List, [], ◌∷◌, ◌++◌, None, Some, Option, option_map, Result, Ok as Fine, IfOk, IsSome};
+ghost use Rattle.std.specs.Prelude.{◌≡◌, ◌≤◌, ◌^◌, List, ◌++◌, option_map, Result, Ok as Fine, IfOk};
+ghost use Rattle.covdata.specs.declared.version.LcovVersion.TheVariants.{Two};
+ghost use Rattle.covlarge.specs.Asked.{IsSummary, TellsDoubts};
+ghost use Rattle.covlarge.specs.Doubts.{no_doubts};
 ghost use Rattle.covlarge.specs.Large.{MayBeReadAs, max_pieces};
 ghost use Rattle.covlarge.specs.State.{IsNextPiece, MayGive, begun_after, begun_state};
-ghost use Rattle.covlarge.specs.Summary.{SummaryData, nothing_held};
+ghost use Rattle.covlarge.specs.Summary.{nothing_held};
+ghost use Rattle.covlarge.specs.declared.asked.Asked.TheVariants.{Nothing as nothing_asked, Summary as summary_asked, Doubts as doubts_asked};
+ghost use Rattle.covlarge.specs.declared.asked.Told.{Told as ToldData};
+ghost use Rattle.covlarge.specs.declared.asked.Told.TheVariants.{Nothing as nothing_told};
+ghost use Rattle.covlarge.specs.declared.fault.Refusal.{Refusal as RefusalData};
 ghost use Rattle.covdata.specs.Row.{SubmissionData};
 ghost use Rattle.covpieces.specs.Pieces.{front_text};
-ghost use Rattle.covdata.specs.declared.fault.ReadFault.{ReadFault as Fault};
 
-use crate::fault::PieceFault;
+use crate::asked::{Asked, Told};
+use crate::doubts::Doubts;
+use crate::fault::{PieceFault, Refusal};
 use crate::held::Held;
 use crate::piece_text::{Found, PieceText};
 use crate::so_far::SoFar;
-use covdata::{Bytes, LcovVersion, Memory, ReadFault};
+use covdata::{Bytes, LcovVersion, Memory};
+use covexplain::DoubtKinds;
 use covpacked::PackedSubmission;
 use covpieces::{Carried, pieces_are_read_one_by_one};
 use covstream::{BLOCK_BYTES, Source};
@@ -23,8 +32,8 @@ use std::marker::Model;
 /// as long as the size limit. So a tracefile of less than 2 TiB has fewer chunks.
 pub const MAX_PIECES: u64 = 1_048_575;
 
-/// A tracefile that is read from a source in chunks. Contracts see its version, the state carried over to the next chunk, the
-/// summary of the chunks so far, how many chunks may follow, and the bytes to come.
+/// A tracefile that is read from a source in chunks. Contracts see what the caller asks for, the state carried over to the next chunk,
+/// how many chunks may follow, and the bytes to come.
 #[derive(Drop)]
 pub struct LargeTracefile<S: Source> {
     so_far: SoFar,
@@ -39,9 +48,8 @@ impl<S: Source> Model for LargeTracefile<S> {
     ghost Value = { StateData S };
 
     ghost view = { λ a. record {
-      version = a.so_far.version;
+      asked = a.so_far.asked;
       carried = a.so_far.carried;
-      held = a.so_far.held;
       left = a.left;
       rest = a.rest;
       source = a.source;
@@ -53,8 +61,8 @@ impl<S: Source> Model for LargeTracefile<S> {
 /// The result of reading the next chunk.
 #[derive(Drop)]
 pub enum NextPiece<S: Source> {
-    /// The last chunk, and the summary of the whole tracefile if one was collected.
-    Last(PackedSubmission, Option<Held>),
+    /// The last chunk, and what is told of the whole tracefile.
+    Last(PackedSubmission, Told),
     /// A chunk, and the rest of the tracefile.
     More(PackedSubmission, LargeTracefile<S>),
 }
@@ -64,27 +72,27 @@ impl<S: Source + Drop> LargeTracefile<S> {
     pub fn new(alloc: Global, version: LcovVersion, source: S) -> LargeTracefile<S>
         requires reads { S.reads source ≡ 0 }
         requires failed_reads { S.failed_reads source ≡ 0 }
-        ensures whole { (read : List SubmissionData) (end : Result (Option SummaryData) Fault) → MayGive S.left result read end → MayBeReadAs version (S.left source) read end }
+        ensures whole { (read : List SubmissionData) (end : Result ToldData RefusalData) → MayGive S.left result read end → MayBeReadAs version (S.left source) read end }
         ensures source { result.source ≡ source }
         ensures left { result.left ≡ max_pieces }
-        ensures held { result.held ≡ None }
+        ensures asked { result.asked ≡ nothing_asked version }
     {
         pieces_are_read_one_by_one();
-        LargeTracefile::begun(alloc, version, None, source)
+        LargeTracefile::begun(alloc, Asked::Nothing(version), source)
     }
 
     /// Like `new`, but a summary of the whole tracefile comes with the last chunk.
     pub fn summed(alloc: Global, version: LcovVersion, source: S) -> LargeTracefile<S>
         requires reads { S.reads source ≡ 0 }
         requires failed_reads { S.failed_reads source ≡ 0 }
-        ensures whole { (read : List SubmissionData) (end : Result (Option SummaryData) Fault) → MayGive S.left result read end → MayBeReadAs version (S.left source) read end }
-        ensures told { (read : List SubmissionData) (told : Option SummaryData) → MayGive S.left result read (Fine told) → IsSome told }
+        ensures whole { (read : List SubmissionData) (end : Result ToldData RefusalData) → MayGive S.left result read end → MayBeReadAs version (S.left source) read end }
+        ensures told { (read : List SubmissionData) (told : ToldData) → MayGive S.left result read (Fine told) → IsSummary told }
         ensures source { result.source ≡ source }
         ensures left { result.left ≡ max_pieces }
-        ensures held { result.held ≡ Some nothing_held }
+        ensures asked { result.asked ≡ summary_asked version nothing_held }
     {
         pieces_are_read_one_by_one();
-        LargeTracefile::begun(alloc, version, Some(Held::new()), source)
+        LargeTracefile::begun(alloc, Asked::Summary(version, Held::new()), source)
     }
 
     /// Like `new`, if the caller has read `first`, the first bytes of the tracefile, from the source.
@@ -96,15 +104,15 @@ impl<S: Source + Drop> LargeTracefile<S> {
     ) -> LargeTracefile<S>
         requires reads { S.reads source ≤ 2 ^ 28 }
         requires failed_reads { S.failed_reads source ≡ 0 }
-        ensures whole { (read : List SubmissionData) (end : Result (Option SummaryData) Fault) → MayGive S.left result read end
+        ensures whole { (read : List SubmissionData) (end : Result ToldData RefusalData) → MayGive S.left result read end
             → MayBeReadAs version (option_map (λ more. first ++ more) (S.left source)) read end }
-        ensures untold { (read : List SubmissionData) (told : Option SummaryData) → MayGive S.left result read (Fine told) → told ≡ None }
+        ensures untold { (read : List SubmissionData) (told : ToldData) → MayGive S.left result read (Fine told) → told ≡ nothing_told }
         ensures source { result.source ≡ source }
         ensures left { result.left ≡ max_pieces }
-        ensures held { result.held ≡ None }
+        ensures asked { result.asked ≡ nothing_asked version }
     {
         pieces_are_read_one_by_one();
-        LargeTracefile::begun_after(alloc, version, None, first, source)
+        LargeTracefile::begun_after(alloc, Asked::Nothing(version), first, source)
     }
 
     /// Like `summed`, if the caller has read `first`, the first bytes of the tracefile, from the source.
@@ -116,48 +124,57 @@ impl<S: Source + Drop> LargeTracefile<S> {
     ) -> LargeTracefile<S>
         requires reads { S.reads source ≤ 2 ^ 28 }
         requires failed_reads { S.failed_reads source ≡ 0 }
-        ensures whole { (read : List SubmissionData) (end : Result (Option SummaryData) Fault) → MayGive S.left result read end
+        ensures whole { (read : List SubmissionData) (end : Result ToldData RefusalData) → MayGive S.left result read end
             → MayBeReadAs version (option_map (λ more. first ++ more) (S.left source)) read end }
-        ensures told { (read : List SubmissionData) (told : Option SummaryData) → MayGive S.left result read (Fine told) → IsSome told }
+        ensures told { (read : List SubmissionData) (told : ToldData) → MayGive S.left result read (Fine told) → IsSummary told }
         ensures source { result.source ≡ source }
         ensures left { result.left ≡ max_pieces }
-        ensures held { result.held ≡ Some nothing_held }
+        ensures asked { result.asked ≡ summary_asked version nothing_held }
     {
         pieces_are_read_one_by_one();
-        LargeTracefile::begun_after(alloc, version, Some(Held::new()), first, source)
+        LargeTracefile::begun_after(alloc, Asked::Summary(version, Held::new()), first, source)
     }
 
-    /// The tracefile before its first chunk.
-    fn begun(
+    /// Opens the rest of the source as a tracefile of LCOV 2, if the caller has read `first`, the first bytes of the tracefile, from the
+    /// source. The doubtful lines of these `kinds` come with the last chunk.
+    pub fn doubted_after(
         alloc: Global,
-        version: LcovVersion,
-        held: Option<Held>,
-        source: S,
-    ) -> LargeTracefile<S>
-        requires reads { S.reads source ≡ 0 }
-        requires failed_reads { S.failed_reads source ≡ 0 }
-        ensures { result ≡ begun_state version held source }
-    {
-        LargeTracefile::begun_after(alloc, version, held, Bytes::new(alloc), source)
-    }
-
-    /// The tracefile before its first chunk, if `first` was read from the source before.
-    fn begun_after(
-        alloc: Global,
-        version: LcovVersion,
-        held: Option<Held>,
+        kinds: DoubtKinds,
         first: Bytes,
         source: S,
     ) -> LargeTracefile<S>
         requires reads { S.reads source ≤ 2 ^ 28 }
         requires failed_reads { S.failed_reads source ≡ 0 }
-        ensures { result ≡ begun_after version held first source }
+        ensures whole { (read : List SubmissionData) (end : Result ToldData RefusalData) → MayGive S.left result read end
+            → MayBeReadAs Two (option_map (λ more. first ++ more) (S.left source)) read end }
+        ensures told { (read : List SubmissionData) (told : ToldData) → MayGive S.left result read (Fine told) → TellsDoubts kinds told }
+        ensures source { result.source ≡ source }
+        ensures left { result.left ≡ max_pieces }
+        ensures asked { result.asked ≡ doubts_asked (no_doubts kinds) }
+    {
+        pieces_are_read_one_by_one();
+        LargeTracefile::begun_after(alloc, Asked::Doubts(Doubts::new(kinds)), first, source)
+    }
+
+    /// The tracefile before its first chunk.
+    fn begun(alloc: Global, asked: Asked, source: S) -> LargeTracefile<S>
+        requires reads { S.reads source ≡ 0 }
+        requires failed_reads { S.failed_reads source ≡ 0 }
+        ensures { result ≡ begun_state asked source }
+    {
+        LargeTracefile::begun_after(alloc, asked, Bytes::new(alloc), source)
+    }
+
+    /// The tracefile before its first chunk, if `first` was read from the source before.
+    fn begun_after(alloc: Global, asked: Asked, first: Bytes, source: S) -> LargeTracefile<S>
+        requires reads { S.reads source ≤ 2 ^ 28 }
+        requires failed_reads { S.failed_reads source ≡ 0 }
+        ensures { result ≡ begun_after asked first source }
     {
         LargeTracefile {
             so_far: SoFar {
-                version,
+                asked,
                 carried: Carried::new(alloc),
-                held,
             },
             left: MAX_PIECES,
             rest: first,
@@ -184,7 +201,7 @@ impl<S: Source + Drop> LargeTracefile<S> {
         ensures { IsNextPiece S.left S.failed_reads self result }
     {
         if self.left == 0 {
-            return Err(PieceFault::Refused(ReadFault::TooLong));
+            return Err(PieceFault::Refused(Refusal::too_long()));
         }
         let LargeTracefile {
             mut so_far,
@@ -197,8 +214,8 @@ impl<S: Source + Drop> LargeTracefile<S> {
         let (text, found) = begun.read_on(&mut source, block.as_mut_slice())?;
         match found {
             Found::Last => {
-                let (submission, held) = so_far.last_piece(alloc, &text)?;
-                Ok(NextPiece::Last(submission, held))
+                let (submission, told) = so_far.last_piece(alloc, &text)?;
+                Ok(NextPiece::Last(submission, told))
             }
             Found::Sections(len) => {
                 let submission = so_far.next_piece(alloc, &text, len)?;
@@ -211,7 +228,7 @@ impl<S: Source + Drop> LargeTracefile<S> {
                 };
                 Ok(NextPiece::More(submission, next))
             }
-            Found::TooLong => Err(PieceFault::Refused(ReadFault::TooLong)),
+            Found::TooLong => Err(PieceFault::Refused(Refusal::too_long())),
         }
     }
 }

@@ -1,57 +1,46 @@
 //! Reads chunks, one after another.
 
-ghost use Rattle.std.specs.Prelude.{◌≡◌, ◌<◌, ◌≤◌, ◌+◌, ◌^◌, ◌++◌, length, take, IfOk, IsSome, OnErr, OnOk};
+ghost use Rattle.std.specs.Prelude.{◌≡◌, ◌<◌, ◌≤◌, ◌+◌, ◌^◌, length, take, IfOk, OnOk};
+ghost use Rattle.covlarge.specs.Asked.{version_of};
+ghost use Rattle.covlarge.specs.Large.{faulty_line as line_of_fault, line_at as line_with_number};
 ghost use Rattle.covlarge.specs.Piece.{AnswersOf, IsFaultOf, IsLastPiece, IsPieceRead, IsReadAs};
-ghost use Rattle.covlarge.specs.Summary.{HoldsOnIfTold};
-ghost use Rattle.covlarge.specs.Version.{IsSkippedOf, carried_over};
+ghost use Rattle.covlarge.specs.Version.{carried_over};
+ghost use Rattle.covline.specs.Lines.{lines_of};
 ghost use Rattle.covpieces.specs.Sections.{EndsSection};
 ghost use Rattle.covread.specs.Outcome.{max_bytes};
 
-use crate::fault::PieceFault;
-use crate::held::Held;
+use crate::asked::{Asked, Told};
+use crate::fault::{PieceFault, Refusal};
 use crate::piece_text::PieceText;
-use covdata::{LcovVersion, Memory, ReadFault};
+use covdata::{Bytes, LcovVersion, Memory, ReadFault};
 use covlcov2::read_lcov2_packed;
+use covline::lines;
 use covpacked::PackedSubmission;
 use covpieces::Carried;
 use covread::read_trace_packed;
 use std::alloc::Global;
 
-/// The state between two chunks: the tracefile's version, the state carried over to the next chunk, and the summary of the chunks
-/// so far, if one is collected.
+/// The state between two chunks: the state carried over to the next chunk, and what the caller asks for.
 #[derive(Drop)]
 pub(crate) struct SoFar {
-    pub(crate) version: LcovVersion,
+    pub(crate) asked: Asked,
     pub(crate) carried: Carried,
-    pub(crate) held: Option<Held>,
 }
 
 impl SoFar {
-    /// Reads the last chunk: all of `text` after the prefix. Returns the chunk's submission, and the summary of all chunks if one
-    /// is collected.
+    /// Reads the last chunk: all of `text` after the prefix. Returns the chunk's submission, and what is told of all chunks.
     pub(crate) fn last_piece(
         self,
         alloc: Global,
         text: &PieceText,
-    ) -> Result<(PackedSubmission, Option<Held>), PieceFault>
+    ) -> Result<(PackedSubmission, Told), PieceFault>
         requires { length text.now.front + length text.now.bytes ≤ max_bytes }
-        ensures { IsLastPiece self.version self.carried self.held text.now.front text.now.bytes result }
+        ensures { IsLastPiece self.asked self.carried text.now.front text.now.bytes result }
     {
-        let SoFar {
-            version,
-            carried,
-            mut held,
-        } = self;
-        let submission = read_piece(alloc, version, &carried, text.get())?;
-        hold(
-            &mut held,
-            alloc,
-            version,
-            carried.lines(),
-            text.bytes(),
-            &submission,
-        )?;
-        Ok((submission, held))
+        let SoFar { mut asked, carried } = self;
+        let submission = read_piece(alloc, asked.version(), &carried, text.get())?;
+        asked.add(alloc, carried.lines(), text.bytes(), &submission)?;
+        Ok((submission, asked.told()))
     }
 
     /// Reads the first `len` bytes after the prefix as a chunk, and goes on to the next chunk.
@@ -65,21 +54,16 @@ impl SoFar {
         requires few { length text.now.front + len ≤ max_bytes }
         requires ends { EndsSection (take len text.now.bytes) }
         requires lines { self.old.carried.lines < 2 ^ 60 }
-        ensures read { IsPieceRead self.old.version self.old.carried self.old.held text.now.front (take len text.now.bytes) self.new.held result }
-        ensures version { self.new.version ≡ self.old.version }
-        ensures carried { IfOk result (λ submission. self.new.carried ≡ carried_over self.old.version self.old.carried (take len text.now.bytes) submission.sects) }
+        ensures read { IsPieceRead self.old.asked self.old.carried text.now.front (take len text.now.bytes) self.new.asked result }
+        ensures version { IfOk result (λ _. version_of self.new.asked ≡ version_of self.old.asked) }
+        ensures carried { IfOk result (λ submission. self.new.carried ≡ carried_over (version_of self.old.asked) self.old.carried (take len text.now.bytes) submission.sects) }
     {
-        let submission = read_piece(alloc, self.version, &self.carried, text.with_front(len))?;
+        let version = self.asked.version();
+        let submission = read_piece(alloc, version, &self.carried, text.with_front(len))?;
         let piece = &text.bytes()[..len];
-        hold(
-            &mut self.held,
-            alloc,
-            self.version,
-            self.carried.lines(),
-            piece,
-            &submission,
-        )?;
-        pass(&mut self.carried, alloc, self.version, piece, &submission)?;
+        self.asked
+            .add(alloc, self.carried.lines(), piece, &submission)?;
+        pass(&mut self.carried, alloc, version, piece, &submission)?;
         Ok(submission)
     }
 }
@@ -96,7 +80,7 @@ fn read_piece(
 {
     match read_text(alloc, version, text) {
         Ok(submission) => Ok(submission),
-        Err(fault) => Err(piece_fault(carried, fault)),
+        Err(fault) => Err(piece_fault(alloc, carried, text, fault)),
     }
 }
 
@@ -114,33 +98,44 @@ fn read_text(
     }
 }
 
-/// Turns a chunk's error into the error of the whole tracefile.
-fn piece_fault(carried: &Carried, fault: ReadFault) -> PieceFault
-    ensures { IsFaultOf carried.now fault result }
+/// Turns the error of a chunk, whose text is this with its prefix, into the error of the whole tracefile.
+fn piece_fault(alloc: Global, carried: &Carried, text: &[u8], fault: ReadFault) -> PieceFault
+    ensures { IsFaultOf carried.now text.now fault result }
 {
-    match fault {
-        ReadFault::Memory => PieceFault::Memory,
-        _ => PieceFault::Refused(carried.moved(fault)),
+    if fault.is_memory() {
+        return PieceFault::Memory;
+    }
+    match faulty_line(alloc, text, fault) {
+        Ok(line) => PieceFault::Refused(Refusal {
+            fault: carried.moved(fault),
+            line,
+        }),
+        Err(_) => PieceFault::Memory,
     }
 }
 
-/// Adds the next chunk to the summary, if a summary is collected. Never fails otherwise.
-fn hold(
-    held: &mut Option<Held>,
-    alloc: Global,
-    version: LcovVersion,
-    lines: u64,
-    piece: &[u8],
-    submission: &PackedSubmission,
-) -> Result<(), Memory>
-    ensures holds { OnOk result (HoldsOnIfTold (IsSkippedOf version) lines held.old piece.now submission.now held.new) }
-    ensures cause { OnErr result (IsSome held.old) }
+/// Copies the line of `text` that the error says to be invalid by itself, if it says so.
+fn faulty_line(alloc: Global, text: &[u8], fault: ReadFault) -> Result<Option<Bytes>, Memory>
+    ensures { IfOk result (λ line. line ≡ line_of_fault (lines_of text.now) fault) }
 {
-    if let Some(held) = held {
-        held.add(alloc, version, lines, piece, submission)?;
-        return Ok(());
+    match fault {
+        ReadFault::Line { at, .. } => copied_line(alloc, text, at),
+        _ => Ok(None),
     }
-    Ok(())
+}
+
+/// Copies the line of `text` with this number, counted from 1. Returns `None` if there is no such line.
+fn copied_line(alloc: Global, text: &[u8], at: u64) -> Result<Option<Bytes>, Memory>
+    ensures { IfOk result (λ line. line ≡ line_with_number (lines_of text.now) at) }
+{
+    let mut number: u64 = 0;
+    for line in lines(text) {
+        number += 1;
+        if number == at {
+            return Ok(Some(Bytes::of(alloc, line)?));
+        }
+    }
+    Ok(None)
 }
 
 /// Updates the state that is carried over to the next chunk.

@@ -3,8 +3,11 @@
 ghost use Rattle.std.specs.Prelude.{None};
 
 use covcheck::summary_line;
-use covdata::LcovVersion;
-use covlarge::{Held, LargeTracefile, NextPiece, PieceFault, check_large};
+use covdata::{Bytes, LcovVersion};
+use covlarge::{
+    DoubtKinds, Doubts, FirstDoubt, Held, LargeTracefile, NextPiece, PieceFault, Refusal, Told,
+    Why, check_large,
+};
 use covpacked::PackedSubmission;
 use covstream::{Failed, Source};
 use std::alloc::Global;
@@ -12,6 +15,7 @@ use std::process::Abort;
 use std::test::*;
 
 mod checks;
+mod doubts;
 mod longer;
 mod pieces;
 mod texts;
@@ -62,9 +66,44 @@ const WELL: Way = Way {
 /// Returns the error as text.
 fn fault_words(alloc: Global, fault: PieceFault) -> Result<String, Fail> {
     match fault {
-        PieceFault::Refused(fault) => Ok(format!(in alloc; "refused {fault}")?),
+        PieceFault::Refused(refusal) => refusal_words(alloc, &refusal),
         PieceFault::Unreadable => Ok(String::from_str(alloc, "unreadable")?),
         PieceFault::Memory => Ok(String::from_str(alloc, "memory")?),
+    }
+}
+
+/// Returns why the tracefile is invalid, with the invalid line, if there is one.
+fn refusal_words(alloc: Global, refusal: &Refusal) -> Result<String, Fail> {
+    let fault = refusal.fault;
+    match &refusal.line {
+        Some(line) => {
+            let line = String::from_utf8_lossy(alloc, line.get())?;
+            Ok(format!(in alloc; "refused {fault}: {line}")?)
+        }
+        None => Ok(format!(in alloc; "refused {fault}")?),
+    }
+}
+
+/// Returns the number of doubtful lines and the first of them, with a line feed.
+fn doubts_words(alloc: Global, doubts: &Doubts) -> Result<String, Fail> {
+    let number = doubts.number;
+    match &doubts.first {
+        Some(first) => Ok(format!(in alloc;
+            "doubts {number} first {}\n",
+            first_words(alloc, first)?
+        )?),
+        None => Ok(format!(in alloc; "doubts {number}\n")?),
+    }
+}
+
+/// Returns the first doubtful line: its number, its beginning, and why it is doubtful.
+fn first_words(alloc: Global, first: &FirstDoubt) -> Result<String, Fail> {
+    let at = first.at;
+    let start = String::from_utf8_lossy(alloc, first.start.get())?;
+    match first.why {
+        Why::Total { own, .. } => Ok(format!(in alloc; "{at} {start} own {own}")?),
+        Why::Unstarted => Ok(format!(in alloc; "{at} {start} unstarted")?),
+        Why::Unknown => Ok(format!(in alloc; "{at} {start} unknown")?),
     }
 }
 
@@ -91,17 +130,19 @@ fn push_piece(alloc: Global, told: &mut String, piece: &PackedSubmission) -> Res
     Ok(())
 }
 
-/// Appends a line about the last chunk, and a last line: the summary of the whole tracefile, or `end` if none was collected.
+/// Appends a line about the last chunk, and a last line: the summary of the whole tracefile, its doubtful lines, or `end` if nothing is
+/// told.
 fn push_last(
     alloc: Global,
     told: &mut String,
     piece: &PackedSubmission,
-    held: Option<&Held>,
+    whole: &Told,
 ) -> Result<(), Fail> {
     push_piece(alloc, told, piece)?;
-    match held {
-        Some(held) => told.push_str(held_words(alloc, held)?.as_str())?,
-        None => told.push_str("end\n")?,
+    match whole {
+        Told::Summary(held) => told.push_str(held_words(alloc, held)?.as_str())?,
+        Told::Doubts(doubts) => told.push_str(doubts_words(alloc, doubts)?.as_str())?,
+        Told::Nothing => told.push_str("end\n")?,
     }
     Ok(())
 }
@@ -124,8 +165,8 @@ fn push_next<S: Source + Drop>(
             push_piece(alloc, told, &piece)?;
             Ok(Some(rest))
         }
-        Ok(NextPiece::Last(piece, held)) => {
-            push_last(alloc, told, &piece, held.as_ref())?;
+        Ok(NextPiece::Last(piece, whole)) => {
+            push_last(alloc, told, &piece, &whole)?;
             Ok(None)
         }
         Err(fault) => {
@@ -135,8 +176,8 @@ fn push_next<S: Source + Drop>(
     }
 }
 
-/// Appends a line for each chunk of the tracefile, and a last line: the summary of the whole tracefile, `end` if no summary was
-/// collected, or the error.
+/// Appends a line for each chunk of the tracefile, and a last line: the summary of the whole tracefile, its doubtful lines, `end` if
+/// nothing is told, or the error.
 fn push_pieces<S: Source + Drop>(
     alloc: Global,
     told: &mut String,
@@ -181,6 +222,22 @@ fn read_summed(alloc: Global, version: LcovVersion, text: &[u8], way: Way) -> Re
         failed: 0,
     };
     pieces_of(alloc, LargeTracefile::summed(alloc, version, source))
+}
+
+/// Like `read_pieces` for a tracefile of LCOV 2, with its doubtful lines at the end.
+fn read_doubted(alloc: Global, kinds: DoubtKinds, text: &[u8], way: Way) -> Result<String, Fail> {
+    let source = Given {
+        bytes: text,
+        most: way.most,
+        fails: way.fails,
+        reads: 0,
+        failed: 0,
+    };
+    let first = Bytes::new(alloc);
+    pieces_of(
+        alloc,
+        LargeTracefile::doubted_after(alloc, kinds, first, source),
+    )
 }
 
 /// Checks the whole tracefile by `check_large`. Returns the summary or the error as text.

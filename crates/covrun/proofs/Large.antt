@@ -15,6 +15,9 @@ use Rattle.covlarge.specs.Large.{IsAll, IsReadAs, MayBeReadAs, max_pieces}
 use Rattle.covlarge.specs.State.{IsChecked, IsNextPiece, MayFailFrom, MayGive}
 use Rattle.covlarge.specs.StateData.{StateData}
 use Rattle.covlarge.specs.Summary.{SummaryData, summary_data}
+use Rattle.covlarge.specs.declared.asked.Told.{Told}
+use Rattle.covlarge.specs.declared.asked.Told.TheVariants.{Nothing, Summary, Doubts}
+use Rattle.covlarge.specs.declared.fault.Refusal.{Refusal}
 use Rattle.covlarge.specs.declared.fault.PieceFault.{PieceFault}
 use Rattle.covlarge.specs.declared.fault.PieceFault.TheVariants as pieces
 use Rattle.covlarge.specs.declared.large_tracefile.NextPiece.{NextPiece}
@@ -51,15 +54,15 @@ source_fails of file folder name source may keeps (after, bytes, given, failed) 
 -- ---- a check
 
 pub large_held : (held left : Option (List ℕ)) (version : LcovVersion) (summary : TextSummary) (told : SummaryData) → Keeps held left → summary_data summary ≡ told
-    → (read : List SubmissionData) × MayBeReadAs version left read (Ok (Some told)) → IsAnswered held (LargeTracefile version) (Ok summary)
+    → (read : List SubmissionData) × MayBeReadAs version left read (Ok (Summary told)) → IsAnswered held (LargeTracefile version) (Ok summary)
 large_held held left version summary told keeps same (read, (text, all, is)) =
-    (text, all_kept held left text keeps all, (read, subst (λ (s : SummaryData). IsReadAs version text read (Ok (Some s))) (sym same) is))
+    (text, all_kept held left text keeps all, (read, subst (λ (s : SummaryData). IsReadAs version text read (Ok (Summary s))) (sym same) is))
 
-pub large_refused : {S : Type 0} (held : Option (List ℕ)) (left : S → Option (List ℕ)) (failed_reads : S → ℕ) (source : S) (version : LcovVersion) (fault : ReadFault) (found : PieceFault) → found ≡ pieces.Refused fault → Keeps held (left source)
-    → IsChecked left failed_reads version source (Err found) → IsAnswered held (LargeTracefile version) (Err fault)
-large_refused held left failed_reads source version fault found same keeps checked =
+pub large_refused : {S : Type 0} (held : Option (List ℕ)) (left : S → Option (List ℕ)) (failed_reads : S → ℕ) (source : S) (version : LcovVersion) (refusal : Refusal) (found : PieceFault) → found ≡ pieces.Refused refusal → Keeps held (left source)
+    → IsChecked left failed_reads version source (Err found) → IsAnswered held (LargeTracefile version) (Err refusal.fault)
+large_refused held left failed_reads source version refusal found same keeps checked =
     let (read, (text, all, is)) = subst (λ (f : PieceFault). IsChecked left failed_reads version source (Err f)) same checked in
-    (text, all_kept held (left source) text keeps all, (read, is))
+    (text, all_kept held (left source) text keeps all, (read, refusal, refl, is))
 
 pub source_failed : {S : Type 0} (left : S → Option (List ℕ)) (failed_reads : S → ℕ) (version : LcovVersion) (source : S) (found : PieceFault) → found ≡ pieces.Unreadable
     → IsChecked left failed_reads version source (Err found) → MayFailFrom left failed_reads source
@@ -68,18 +71,19 @@ source_failed left failed_reads version source found same checked = subst (λ (f
 -- ---- collecting
 
 -- what is told is taken as a call takes it
-taken_told : (strictness : Strictness) (read : List SubmissionData) (end : Result (Option SummaryData) ReadFault) (outcome : OutcomeData TextFault) → IsToldFor strictness end
+taken_told : (strictness : Strictness) (read : List SubmissionData) (end : Result Told Refusal) (outcome : OutcomeData TextFault) → IsToldFor strictness end
     → IsTakenFrom strictness read end outcome → IsTaken strictness read end outcome
 taken_told Lenient read end outcome told taken = taken
-taken_told Strict read (Ok None) outcome told taken = absurd told
-taken_told Strict read (Ok (Some held)) outcome told taken = taken
+taken_told Strict read (Ok Nothing) outcome told taken = absurd told
+taken_told Strict read (Ok (Summary held)) outcome told taken = taken
+taken_told Strict read (Ok (Doubts doubts)) outcome told taken = absurd told
 taken_told Strict read (Err fault) outcome told taken = taken
 
 -- a file is opened, and nothing was read of it
 pub opened_now : {F File : Type 0} (of : FolderOf F File) (file : SourceOf File) (folder : F)
     → (name : List ℕ) (version : LcovVersion) (strictness : Strictness) (source : File) (large : StateData File) → of.may_open folder name source → Keeps (of.holds folder name) (file.left source)
-    → ((read : List SubmissionData) (end : Result (Option SummaryData) ReadFault) → MayGive file.left large read end → MayBeReadAs version (file.left source) read end)
-    → ((read : List SubmissionData) (end : Result (Option SummaryData) ReadFault) → MayGive file.left large read end → IsToldFor strictness end)
+    → ((read : List SubmissionData) (end : Result Told Refusal) → MayGive file.left large read end → MayBeReadAs version (file.left source) read end)
+    → ((read : List SubmissionData) (end : Result Told Refusal) → MayGive file.left large read end → IsToldFor strictness end)
     → large.source ≡ source → large.left ≡ max_pieces
     → IsOpenedFor file.left file.failed_reads (folder_data of file folder) name version strictness None large
 opened_now {F} {File} of file folder name version strictness source large may keeps whole told same most = record {
@@ -107,12 +111,13 @@ front_if true summary read submission outcome is = ap (λ (o : OutcomeData TextF
 front_if false summary read submission outcome is = refused_in_front summary read outcome.read submission outcome.fault is
 
 -- one more submission in front of what is taken
-pub taken_in_front : (strictness : Strictness) (read : List SubmissionData) (end : Result (Option SummaryData) ReadFault) (submission : SubmissionData) (outcome : OutcomeData TextFault)
+pub taken_in_front : (strictness : Strictness) (read : List SubmissionData) (end : Result Told Refusal) (submission : SubmissionData) (outcome : OutcomeData TextFault)
     → IsTakenFrom strictness read end outcome → IsTakenFrom strictness (submission ∷ read) end (in_front submission outcome)
 taken_in_front Lenient read (Ok told) submission outcome is = ap (λ (o : OutcomeData TextFault). in_front submission o) is
 taken_in_front Lenient read (Err fault) submission outcome is = ap (λ (o : OutcomeData TextFault). in_front submission o) is
-taken_in_front Strict read (Ok None) submission outcome is = ap (λ (o : OutcomeData TextFault). in_front submission o) is
-taken_in_front Strict read (Ok (Some held)) submission outcome (summary, same, is) = (summary, same, front_if (is_clean summary) summary read submission outcome is)
+taken_in_front Strict read (Ok Nothing) submission outcome is = ap (λ (o : OutcomeData TextFault). in_front submission o) is
+taken_in_front Strict read (Ok (Doubts doubts)) submission outcome is = ap (λ (o : OutcomeData TextFault). in_front submission o) is
+taken_in_front Strict read (Ok (Summary held)) submission outcome (summary, same, is) = (summary, same, front_if (is_clean summary) summary read submission outcome is)
 taken_in_front Strict read (Err fault) submission outcome is = ap (λ (o : OutcomeData TextFault). in_front submission o) is
 
 -- ---- one piece
@@ -139,7 +144,7 @@ module _ {File : Type 0} (left : File → Option (List ℕ)) (failed_reads : Fil
       )
 
   -- the last piece
-  pub last_part : (submission : SubmissionData) (told : Option SummaryData) (taken : SubmissionData) (piece : NextPiece File) → piece ≡ parts.Last submission told → IsNextPiece left failed_reads large (Ok piece) → TakesLast strictness told submission (Ok taken)
+  pub last_part : (submission : SubmissionData) (told : Told) (taken : SubmissionData) (piece : NextPiece File) → piece ≡ parts.Last submission told → IsNextPiece left failed_reads large (Ok piece) → TakesLast strictness told submission (Ok taken)
       → (0 < most_parts format opened) × MayTake left (folder.holds name) format strictness opened (record { read = taken ∷ []; fault = None })
   last_part submission told taken piece is last takes =
       let (some, may) = subst (λ (p : NextPiece File). IsNextPiece left failed_reads large (Ok p)) is last in
@@ -148,18 +153,18 @@ module _ {File : Type 0} (left : File → Option (List ℕ)) (failed_reads : Fil
         is_opened.gives (record { read = taken ∷ []; fault = None }) (submission ∷ [], Ok told, may, takes),
       )
 
-  faulty_taken : (strict : Strictness) (fault : ReadFault) → IsTakenFrom strict [] (Err fault) (record { read = []; fault = Some (Faulty fault) })
-  faulty_taken Lenient fault = refl
-  faulty_taken Strict fault = refl
+  faulty_taken : (strict : Strictness) (refusal : Refusal) → IsTakenFrom strict [] (Err refusal) (record { read = []; fault = Some (Faulty refusal.fault) })
+  faulty_taken Lenient refusal = refl
+  faulty_taken Strict refusal = refl
 
   -- a piece is refused
-  pub faulty_part : (found : PieceFault) (fault told : ReadFault) → found ≡ pieces.Refused fault → told ≡ fault → IsNextPiece left failed_reads large (Err found)
+  pub faulty_part : (found : PieceFault) (refusal : Refusal) (told : ReadFault) → found ≡ pieces.Refused refusal → told ≡ refusal.fault → IsNextPiece left failed_reads large (Err found)
       → MayTake left (folder.holds name) format strictness opened (record { read = []; fault = Some (Faulty told) })
-  faulty_part found fault told is same piece =
+  faulty_part found refusal told is same piece =
       let may = subst (λ (f : PieceFault). IsNextPiece left failed_reads large (Err f)) is piece in
       subst (λ (f : ReadFault). MayTake left (folder.holds name) format strictness opened (record { read = []; fault = Some (Faulty f) })) (sym same)
-      (subst (λ (t : FileFormat). MayTake left (folder.holds name) t strictness opened (record { read = []; fault = Some (Faulty fault) })) (sym large_format)
-      (is_opened.gives (record { read = []; fault = Some (Faulty fault) }) ([], Err fault, may, faulty_taken strictness fault)))
+      (subst (λ (t : FileFormat). MayTake left (folder.holds name) t strictness opened (record { read = []; fault = Some (Faulty refusal.fault) })) (sym large_format)
+      (is_opened.gives (record { read = []; fault = Some (Faulty refusal.fault) }) ([], Err refusal, may, faulty_taken strictness refusal)))
 
   -- no piece can be read
   pub no_part : (found : PieceFault) → found ≡ pieces.Unreadable → IsNextPiece left failed_reads large (Err found) → MayFailAs folder left failed_reads name format opened

@@ -13,6 +13,8 @@ use Rattle.covcommand.specs.declared.asked.TextFormat.{TextFormat}
 use Rattle.covcommand.specs.declared.asked.TextFormat.TheVariants.{Tracefile, Gcov}
 use Rattle.covlarge.specs.Large.{IsAll, IsReadAs}
 use Rattle.covlarge.specs.Summary.{summary_data}
+use Rattle.covlarge.specs.declared.asked.Told.TheVariants.{Summary}
+use Rattle.covlarge.specs.declared.fault.Refusal.{Refusal}
 use Rattle.covrun.specs.declared.work.CheckedFormat.{CheckedFormat}
 use Rattle.covrun.specs.declared.work.CheckedFormat.TheVariants.{Text, LargeTracefile}
 use Rattle.covdata.specs.declared.version.LcovVersion.{LcovVersion}
@@ -48,8 +50,8 @@ IsTextOutcome Gcov text answer =
 
 -- the result of checking a tracefile of any length: what it holds, or its fault
 abbrev pub IsLargeAnswer : LcovVersion → List ℕ → Result TextSummary ReadFault → Type 0
-IsLargeAnswer version text (Ok summary) = (read : List SubmissionData) × IsReadAs version text read (Ok (Some (summary_data summary)))
-IsLargeAnswer version text (Err fault) = (read : List SubmissionData) × IsReadAs version text read (Err fault)
+IsLargeAnswer version text (Ok summary) = (read : List SubmissionData) × IsReadAs version text read (Ok (Summary (summary_data summary)))
+IsLargeAnswer version text (Err fault) = (read : List SubmissionData) × (refusal : Refusal) × (refusal.fault ≡ fault) × IsReadAs version text read (Err refusal)
 
 -- this is the result of checking the file's text, which has at most one byte more than the limit, unless it is read in pieces. If the
 -- folder knows the file's bytes (`held`), the text is those bytes, up to that length

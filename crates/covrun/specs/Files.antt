@@ -5,12 +5,14 @@ use Rattle.covcheck.specs.declared.text_summary.TextSummary.{TextSummary}
 use Rattle.covworkers.specs.Collect.{IsReadWhole, OutcomeData}
 use Rattle.covworkers.specs.declared.late_fault.LateFault.{LateFault}
 use Rattle.covworkers.specs.declared.late_fault.LateFault.TheVariants as late
+use Rattle.covlarge.specs.Asked.{IsSummary}
 use Rattle.covlarge.specs.Large.{IsAll, max_pieces}
 use Rattle.covlarge.specs.State.{MayFailFrom, MayGive}
 use Rattle.covlarge.specs.StateData.{StateData}
-use Rattle.covlarge.specs.Summary.{SummaryData}
+use Rattle.covlarge.specs.declared.asked.Told.{Told}
+use Rattle.covlarge.specs.declared.asked.Told.TheVariants.{Nothing, Summary, Doubts}
+use Rattle.covlarge.specs.declared.fault.Refusal.{Refusal}
 use Rattle.covdata.specs.Row.{SubmissionData}
-use Rattle.covdata.specs.declared.fault.ReadFault.{ReadFault}
 use Rattle.covread.specs.Outcome.{max_bytes}
 use Rattle.covdata.specs.declared.version.LcovVersion.{LcovVersion}
 use Rattle.covcommand.specs.declared.asked.Strictness.{Strictness}
@@ -40,24 +42,24 @@ IsUncleanFault summary late.Unreadable = ⊥
 IsUncleanFault summary late.Memory = Unit {0}
 
 -- what is taken, also of a text that doesn't tell what it holds
-abbrev pub IsTakenFrom : Strictness → (read : List SubmissionData) → Result (Option SummaryData) ReadFault → OutcomeData TextFault → Type 0
+abbrev pub IsTakenFrom : Strictness → (read : List SubmissionData) → Result Told Refusal → OutcomeData TextFault → Type 0
 IsTakenFrom Lenient read end outcome = IsTaken Lenient read end outcome
-IsTakenFrom Strict read (Ok None) outcome = outcome ≡ record { read = read; fault = None }
-IsTakenFrom Strict read (Ok (Some held)) outcome = IsTaken Strict read (Ok (Some held)) outcome
-IsTakenFrom Strict read (Err fault) outcome = IsTaken Strict read (Err fault) outcome
+IsTakenFrom Strict read (Ok Nothing) outcome = outcome ≡ record { read = read; fault = None }
+IsTakenFrom Strict read (Ok (Summary held)) outcome = IsTaken Strict read (Ok (Summary held)) outcome
+IsTakenFrom Strict read (Ok (Doubts doubts)) outcome = outcome ≡ record { read = read; fault = None }
+IsTakenFrom Strict read (Err refusal) outcome = IsTaken Strict read (Err refusal) outcome
 
 -- a strict call is told what the text holds
-abbrev pub IsToldFor : Strictness → Result (Option SummaryData) ReadFault → Type 0
+abbrev pub IsToldFor : Strictness → Result Told Refusal → Type 0
 IsToldFor Lenient end = Unit {0}
-IsToldFor Strict (Ok None) = ⊥
-IsToldFor Strict (Ok (Some held)) = Unit {0}
-IsToldFor Strict (Err fault) = Unit {0}
+IsToldFor Strict (Ok told) = IsSummary told
+IsToldFor Strict (Err refusal) = Unit {0}
 
 -- what may be taken of a tracefile: of the whole, or of what is left once some pieces were read
 abbrev pub MayTakeLarge : {S : Type 0} → (left : S → Option (List ℕ)) → (held : Option (List ℕ)) → LcovVersion → Strictness → Option (StateData S) → OutcomeData TextFault → Type 0
 MayTakeLarge left held version strictness None outcome = (text : List ℕ) × IsAll held text × IsLargeOutcome version strictness text outcome
 MayTakeLarge left held version strictness (Some state) outcome =
-    (read : List SubmissionData) × (end : Result (Option SummaryData) ReadFault) × MayGive left state read end × IsTakenFrom strictness read end outcome
+    (read : List SubmissionData) × (end : Result Told Refusal) × MayGive left state read end × IsTakenFrom strictness read end outcome
 
 -- files of this format are read as a whole
 abbrev pub IsWholeFormat : FileFormat → Type 0
@@ -100,7 +102,7 @@ pub record IsOpenedFor {S : Type 0} (left : S → Option (List ℕ)) (failed_rea
   pub most : large.left ≡ most_pieces opened
 
 -- what is taken of the last piece's submission, if the text holds this
-abbrev pub TakesLast : Strictness → Option SummaryData → SubmissionData → Result SubmissionData (LateFault TextFault) → Type 0
+abbrev pub TakesLast : Strictness → Told → SubmissionData → Result SubmissionData (LateFault TextFault) → Type 0
 TakesLast strictness told submission (Ok taken) = IsTakenFrom strictness (submission ∷ []) (Ok told) (record { read = taken ∷ []; fault = None })
 TakesLast strictness told submission (Err (late.Refused fault)) = IsTakenFrom strictness (submission ∷ []) (Ok told) (record { read = []; fault = Some fault })
 TakesLast strictness told submission (Err late.Unreadable) = ⊥

@@ -8,9 +8,11 @@ use Rattle.covcommand.specs.declared.asked.Strictness.{Strictness}
 use Rattle.covcommand.specs.declared.asked.Strictness.TheVariants.{Lenient, Strict}
 use Rattle.covworkers.specs.Collect.{OutcomeData}
 use Rattle.covlarge.specs.Large.{IsAll, IsReadAs}
-use Rattle.covlarge.specs.Summary.{SummaryData, summary_data}
+use Rattle.covlarge.specs.Summary.{summary_data}
+use Rattle.covlarge.specs.declared.asked.Told.{Told}
+use Rattle.covlarge.specs.declared.asked.Told.TheVariants.{Nothing, Summary, Doubts}
+use Rattle.covlarge.specs.declared.fault.Refusal.{Refusal}
 use Rattle.covdata.specs.Row.{SubmissionData}
-use Rattle.covdata.specs.declared.fault.ReadFault.{ReadFault}
 use Rattle.covworld.specs.Folder.{FolderData}
 use Rattle.covrun.specs.Strict.{is_clean}
 use Rattle.covrun.specs.declared.text_fault.TextFault.{TextFault}
@@ -30,18 +32,19 @@ IsTakenIf true summary read outcome = outcome ≡ record { read = read; fault = 
 IsTakenIf false summary read outcome = IsRefusedFor summary read outcome.read outcome.fault
 
 -- what a call takes of a text that was read as these submissions, and then to its end or up to a fault
-abbrev pub IsTaken : Strictness → (read : List SubmissionData) → Result (Option SummaryData) ReadFault → OutcomeData TextFault → Type 0
+abbrev pub IsTaken : Strictness → (read : List SubmissionData) → Result Told Refusal → OutcomeData TextFault → Type 0
 IsTaken Lenient read (Ok told) outcome = outcome ≡ record { read = read; fault = None }
-IsTaken Lenient read (Err fault) outcome = outcome ≡ record { read = read; fault = Some (Faulty fault) }
-IsTaken Strict read (Ok None) outcome = ⊥
-IsTaken Strict read (Ok (Some held)) outcome =
+IsTaken Lenient read (Err refusal) outcome = outcome ≡ record { read = read; fault = Some (Faulty refusal.fault) }
+IsTaken Strict read (Ok Nothing) outcome = ⊥
+IsTaken Strict read (Ok (Summary held)) outcome =
     (summary : TextSummary) × (summary_data summary ≡ held) × IsTakenIf (is_clean summary) summary read outcome
-IsTaken Strict read (Err fault) outcome = outcome ≡ record { read = read; fault = Some (Faulty fault) }
+IsTaken Strict read (Ok (Doubts doubts)) outcome = ⊥
+IsTaken Strict read (Err refusal) outcome = outcome ≡ record { read = read; fault = Some (Faulty refusal.fault) }
 
 -- the outcome of a tracefile of any length
 abbrev pub IsLargeOutcome : LcovVersion → Strictness → (text : List ℕ) → OutcomeData TextFault → Type 0
 IsLargeOutcome version strictness text outcome =
-    (read : List SubmissionData) × (end : Result (Option SummaryData) ReadFault) × IsReadAs version text read end × IsTaken strictness read end outcome
+    (read : List SubmissionData) × (end : Result Told Refusal) × IsReadAs version text read end × IsTaken strictness read end outcome
 
 -- there is one text for each file, of any length. If the folder knows a file's bytes, the file's text is those bytes
 abbrev pub AreWholeTexts : FolderData → (files texts : List (List ℕ)) → Type 0

@@ -106,10 +106,12 @@ impl<'a, F: Folder> FileInput<'a, F> {
                     opened: Some(rest),
                 },
             )),
-            Ok(NextPiece::Last(submission, held)) => Ok(Part::Last(take_last(
-                alloc, strictness, submission, held,
+            Ok(NextPiece::Last(submission, told)) => Ok(Part::Last(take_last(
+                alloc, strictness, submission, told,
             )?)),
-            Err(PieceFault::Refused(fault)) => Err(LateFault::Refused(TextFault::Faulty(fault))),
+            Err(PieceFault::Refused(refusal)) => {
+                Err(LateFault::Refused(TextFault::Faulty(refusal.fault)))
+            }
             Err(PieceFault::Unreadable) => Err(LateFault::Unreadable),
             Err(PieceFault::Memory) => Err(LateFault::Memory),
         }

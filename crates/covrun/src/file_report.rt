@@ -135,7 +135,7 @@ fn examine_large<F: Folder>(
     };
     match check_large(alloc, version, opened.source) {
         Ok(held) => report_on_summary(alloc, strictness, &shown, &held.summary()),
-        Err(PieceFault::Refused(fault)) => report_on_refusal(alloc, &shown, fault),
+        Err(PieceFault::Refused(refusal)) => report_on_refusal(alloc, &shown, refusal.fault),
         Err(PieceFault::Unreadable) => report_on_unread(alloc, &shown),
         Err(PieceFault::Memory) => Err(SessionFault::Memory),
     }

@@ -1,12 +1,12 @@
 //! Tracefiles of any length as inputs of collecting, chunk by chunk.
 
-ghost use Rattle.std.specs.Prelude.{◌≡◌, List, Option, None, Result, IfOk, IfErr};
+ghost use Rattle.std.specs.Prelude.{◌≡◌, List, None, Result, IfOk, IfErr};
 ghost use Rattle.covworkers.specs.declared.late_fault.LateFault.TheVariants.{Memory, Unreadable};
 ghost use Rattle.covlarge.specs.Large.{MayBeReadAs, max_pieces};
 ghost use Rattle.covlarge.specs.State.{MayGive};
-ghost use Rattle.covlarge.specs.Summary.{SummaryData};
+ghost use Rattle.covlarge.specs.declared.asked.Told.{Told as ToldData};
+ghost use Rattle.covlarge.specs.declared.fault.Refusal.{Refusal as RefusalData};
 ghost use Rattle.covdata.specs.Row.{SubmissionData};
-ghost use Rattle.covdata.specs.declared.fault.ReadFault.{ReadFault};
 ghost use Rattle.covrun.specs.Files.{IsOpenedFor, IsToldFor, MayFailLarge, TakesLast};
 ghost use Rattle.covworld.specs.Folder.{folder_data};
 
@@ -14,7 +14,7 @@ use crate::strict::refuse_unless_clean;
 use crate::text_fault::TextFault;
 use covbook::PackedRef;
 use covcommand::{LcovVersion, Strictness};
-use covlarge::{Held, LargeTracefile};
+use covlarge::{LargeTracefile, Told};
 use covpacked::PackedSubmission;
 use covstream::Source;
 use covworkers::{Given, LateFault};
@@ -67,8 +67,8 @@ fn begin_large<S: Source + Drop>(
 ) -> LargeTracefile<S>
     requires reads { S.reads source ≡ 0 }
     requires failed { S.failed_reads source ≡ 0 }
-    ensures whole { (read : List SubmissionData) (end : Result (Option SummaryData) ReadFault) → MayGive S.left result read end → MayBeReadAs version (S.left source) read end }
-    ensures told { (read : List SubmissionData) (end : Result (Option SummaryData) ReadFault) → MayGive S.left result read end → IsToldFor strictness end }
+    ensures whole { (read : List SubmissionData) (end : Result ToldData RefusalData) → MayGive S.left result read end → MayBeReadAs version (S.left source) read end }
+    ensures told { (read : List SubmissionData) (end : Result ToldData RefusalData) → MayGive S.left result read end → IsToldFor strictness end }
     ensures source { result.source ≡ source }
     ensures left { result.left ≡ max_pieces }
 {
@@ -84,17 +84,19 @@ pub(crate) fn take_last(
     alloc: Global,
     strictness: Strictness,
     submission: PackedSubmission,
-    held: Option<Held>,
+    told: Told,
 ) -> Result<Given, LateFault<TextFault>>
-    ensures { TakesLast strictness held submission result }
+    ensures { TakesLast strictness told submission result }
 {
     let given = share(alloc, submission)?;
-    match (strictness, held) {
-        (Strictness::Strict, Some(held)) => {
+    match (strictness, told) {
+        (Strictness::Strict, Told::Summary(held)) => {
             refuse_unless_clean(alloc, &held.summary())?;
             Ok(given)
         }
-        (Strictness::Lenient, _) | (Strictness::Strict, None) => Ok(given),
+        (Strictness::Lenient, _) | (Strictness::Strict, Told::Nothing | Told::Doubts(_)) => {
+            Ok(given)
+        }
     }
 }
 

@@ -61,7 +61,7 @@ fn faults(rt: HostRuntime) -> Result<(), Fail> {
         (b"DA:1,1\n", "t 7 7 0\nt 7 7 0\nrefused Outside at 56\n"),
         (
             b"\nSF:/b.c\nDA:1\n",
-            "t 7 7 0\nt 7 7 0\nrefused BadLine at 58\n",
+            "t 7 7 0\nt 7 7 0\nrefused BadLine at 58: DA:1\n",
         ),
         (b"SF:/b.c\nTN:", "t 7 7 0\nt 7 7 0\nrefused Inside at 57\n"),
         (b"SF:/b.c", "t 7 7 0\nt 7 7 0\nrefused OpenEnd\n"),
@@ -105,7 +105,7 @@ fn a_section_that_is_too_long(rt: HostRuntime) -> Result<(), Fail> {
     let mut faulty = Vec::from_slice(rt.alloc(), b"SF:/a.c\nDA:1\nend_of_record\n")?;
     faulty.extend_from_slice(text.as_slice())?;
     let told = read_pieces(rt.alloc(), LcovVersion::One, faulty.as_slice(), WELL)?;
-    check_words(&rt, &told, "refused BadLine at 2\n");
+    check_words(&rt, &told, "refused BadLine at 2: DA:1\n");
     Ok(())
 }
 

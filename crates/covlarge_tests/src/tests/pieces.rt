@@ -2,7 +2,7 @@
 
 use super::{Given, WELL, Way, check_words, read_pieces, read_summed};
 use covdata::LcovVersion;
-use covlarge::{LargeTracefile, NextPiece};
+use covlarge::{LargeTracefile, NextPiece, Told};
 use covread::read_trace;
 use std::process::Abort;
 use std::test::*;
@@ -25,7 +25,7 @@ fn one_piece(rt: HostRuntime) -> Result<(), Fail> {
     assert!(rt; large.most_pieces() == 1_048_575, "the most pieces");
     let whole = read_trace(rt.alloc(), TWO)?;
     match large.next_piece(rt.alloc()) {
-        Ok(NextPiece::Last(piece, None)) => {
+        Ok(NextPiece::Last(piece, Told::Nothing)) => {
             assert!(rt; piece.is_same_as(&whole), "the piece is the whole");
         }
         _ => panic!(rt; "there is another end"),
@@ -85,7 +85,7 @@ const OTHER_TEXTS: &[(LcovVersion, &[u8], &str)] = &[
     (
         LcovVersion::One,
         b"SF:/a.c\nend_of_record\nSF:/b.c\nDA:1\n",
-        "refused BadLine at 4\n",
+        "refused BadLine at 4: DA:1\n",
     ),
     (LcovVersion::One, b"SF:/a.c\nDA:1,1", "refused OpenEnd\n"),
     (

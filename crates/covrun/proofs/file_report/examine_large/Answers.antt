@@ -1,7 +1,4 @@
-use Rattle.std.proofs.Common.{◌∙◌, inl, ap, subst}
-use Rattle.std.specs.Prelude.{IfOk}
-use Rattle.covdata.specs.declared.fault.ReadFault.{ReadFault}
-use Rattle.covrun.specs.Checked.{IsReportOf}
+use Rattle.std.proofs.Common.{◌∙◌, inl, ap}
 use Rattle.covlist.specs.Shown.{shown_name}
 use Rattle.covrun.specs.Check.{Held, Refused, Unread}
 use Rattle.covworld.specs.Folder.{folder_data}
@@ -27,8 +24,8 @@ pub returns-in-Err-Refused : goal.returns-in-Err-Refused
 returns-in-Err-Refused g c =
     examined_outcome (folder_data g.F.Folder g.F.File.Source c.args.folder.now)
     (LargeTracefile c.args.version) c.args.strictness c.args.name.now c.in_ok-shown.shown (c.in_ok-shown.ensures.name ∙ ap shown_name c.as_bytes.ensures.value)
-    (Refused c.in-Err-Refused.fault) (large_refused (g.F.Folder.holds c.args.folder.now c.args.name.now) g.F.File.Source.left g.F.File.Source.failed_reads _ c.args.version c.in-Err-Refused.fault c.in-Err-Refused.field-0 c.in-Err-Refused.field-0-is c.in-Ok.ensures.bytes c.in-Err-Refused.ensures)
-    c.report_on_refusal.result (subst (λ (fault : ReadFault). IfOk c.report_on_refusal.result (IsReportOf c.args.strictness c.in_ok-shown.shown (Refused fault))) c.in-Err-Refused.fault-is (c.report_on_refusal.ensures.report c.args.strictness)) c.report_on_refusal.ensures.fault
+    (Refused c.in-Err-Refused.refusal.fault) (large_refused (g.F.Folder.holds c.args.folder.now c.args.name.now) g.F.File.Source.left g.F.File.Source.failed_reads _ c.args.version c.in-Err-Refused.refusal c.in-Err-Refused.field-0 c.in-Err-Refused.field-0-is c.in-Ok.ensures.bytes c.in-Err-Refused.ensures)
+    c.report_on_refusal.result (c.report_on_refusal.ensures.report c.args.strictness) c.report_on_refusal.ensures.fault
 
 pub returns-in-Err-Unreadable : goal.returns-in-Err-Unreadable
 returns-in-Err-Unreadable g c =

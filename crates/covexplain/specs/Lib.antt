@@ -1,0 +1,4 @@
+pub mod Doubts
+pub mod Lacking
+pub mod Laws
+pub mod Walk
