@@ -20,12 +20,12 @@
 mod doubt;
 mod fields;
 mod find;
-mod lacking;
 mod laws;
+mod missing;
 mod own_totals;
 
 pub use doubt::{Doubt, DoubtKinds, Why};
 pub use fields::Field;
 pub use find::first_doubt;
-pub use lacking::lacking;
 pub use laws::{bad_lines_lack_a_field, misfits_are_counted};
+pub use missing::lacking;
